@@ -1,0 +1,6 @@
+pub mod Bounds
+pub mod Written
+pub mod Parts
+pub mod InTurn
+pub mod Proportion
+pub mod Levels
