@@ -1,0 +1,8 @@
+pub mod Book
+pub mod Pots
+pub mod Makeup
+pub mod Refused
+pub mod Seats
+pub mod Sheet
+pub mod TwoPots
+pub mod Caps
