@@ -16,14 +16,18 @@ use clearing::TwoPots;
 /// The two kinds of base.
 #[derive(Clone, Copy)]
 pub enum BaseKind {
+    /// A limit sheet.
     Sheet,
+    /// The two pots.
     Pots,
 }
 
 /// What a setter of a pile answers.
 #[derive(Clone, Copy)]
 pub enum SetAnswer {
+    /// The figure is set.
     Done,
+    /// Nothing is changed.
     Refused(Refusal),
     /// The pile has no part with such a figure.
     NoSuchPart,

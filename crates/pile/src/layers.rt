@@ -13,7 +13,7 @@ use clearing::Cap;
 use clearing::CapClearing;
 use clearing::Clearing;
 
-/// A base with no cap, one or two on it.
+/// A base with no cap, one cap or two caps on it.
 #[derive(Drop)]
 pub enum Pile {
     Bare(Base),

@@ -1,0 +1,9 @@
+pub mod Lawful
+pub mod Answers
+pub mod Made
+pub mod Visible
+pub mod Life
+pub mod Admissible
+pub mod Checks
+pub mod Table
+pub mod Theorems
