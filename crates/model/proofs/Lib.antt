@@ -26,3 +26,4 @@ pub mod ClockLaws
 pub mod Steps
 pub mod Closing
 pub mod Laws
+pub mod Refilled

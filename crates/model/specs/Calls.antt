@@ -37,7 +37,7 @@ handed rows w = record { day = w .day; register = take rows (w .register); cover
 abbrev pub givenBack : ℕ → World → Outcome → Outcome
 givenBack rows w o = record {
   answer = o .answer;
-  world = record { day = o .world .day; register = o .world .register ++ drop rows (w .register); cover = o .world .cover }
+  world = record { day = o .world .day; register = o .world .register ++ drop rows (w .register); cover = o .world .cover };
 }
 
 -- what a call does

@@ -22,10 +22,10 @@ closing w = record {
     clock = w .day .clock;
     orders = map (takenOut Close) (w .day .orders);
     queue = w .day .queue;
-    used = w .day .used
+    used = w .day .used;
   };
   register = w .register;
-  cover = releasedAll (w .cover) (w .day .orders)
+  cover = releasedAll (w .cover) (w .day .orders);
 }
 
 -- an order's concluded and withdrawn lots

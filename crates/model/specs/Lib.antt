@@ -20,3 +20,4 @@ pub mod DepthLaw
 pub mod Law
 pub mod States
 pub mod Figures
+pub mod Refills

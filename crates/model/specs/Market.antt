@@ -32,7 +32,7 @@ none = record {
   state = Done;
   visible = 0;
   hidden = 0;
-  withdrawn = 0
+  withdrawn = 0;
 }
 
 -- the order at place k

@@ -77,7 +77,7 @@ entered n p e left = record {
   state = cond (rests (e .remainder)) (nextState Active (Conclusion left)) (nextState (nextState Active (Conclusion left)) Withdrawal);
   visible = shows e (restOf e left);
   hidden = restOf e left - shows e (restOf e left);
-  withdrawn = withdrawnOf e left
+  withdrawn = withdrawnOf e left;
 }
 
 -- an order that waits hides its whole sum
@@ -91,7 +91,7 @@ withOrder d orders queue used o = record {
   clock = d .clock;
   orders = orders ++ (o ∷ []);
   queue = queue ++ (length orders ∷ []);
-  used = used
+  used = used;
 }
 
 -- the market of a day, with no row made yet
@@ -109,8 +109,8 @@ placedWaiting w p e = record {
   world = record {
     day = withOrder (w .day) (w .day .orders) (w .day .queue) (w .day .used) (waiting (nextNumber (w .day)) p e);
     register = w .register;
-    cover = reserved (w .cover) p (e .sum)
-  }
+    cover = reserved (w .cover) p (e .sum);
+  };
 }
 
 -- any other order is registered and covered, met the queue, and its remainder rests or is withdrawn and released
@@ -120,16 +120,16 @@ placedMeeting w p e met = record {
   world = record {
     day = withOrder (w .day) (met .market .orders) (met .market .queue) (w .day .used + length (met .market .rows)) (entered (nextNumber (w .day)) p e (met .left));
     register = written (w .register) (w .day .used) (met .market .rows);
-    cover = released (reserved (w .cover) p (e .sum)) p (withdrawnOf e (met .left))
-  }
+    cover = released (reserved (w .cover) p (e .sum)) p (withdrawnOf e (met .left));
+  };
 }
 
 -- what an accepted order does
 unfoldable pub placed : Rule → World → ℕ → Terms → Outcome
 placed rule w p e =
     elim (waitsFirst (w .day .settings .mode) e) [
-      true ↦ placedWaiting w p e
-    | false ↦ placedMeeting w p e (meeting rule (w .day .settings) e (nextNumber (w .day)) (marketOf (w .day)))
+      | true ↦ placedWaiting w p e
+      | false ↦ placedMeeting w p e (meeting rule (w .day .settings) e (nextNumber (w .day)) (marketOf (w .day)))
     ]
 
 -- place

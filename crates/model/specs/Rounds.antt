@@ -32,7 +32,7 @@ concluded n o = record {
   state = nextState (o .state) (Conclusion ((o .visible - n) + o .hidden));
   visible = o .visible - n;
   hidden = o .hidden;
-  withdrawn = o .withdrawn
+  withdrawn = o .withdrawn;
 }
 
 -- its visible lots are spent, and it has hidden ones
@@ -52,7 +52,7 @@ shownAgain o = record {
   state = o .state;
   visible = shows (o .terms) (o .hidden);
   hidden = o .hidden - shows (o .terms) (o .hidden);
-  withdrawn = o .withdrawn
+  withdrawn = o .withdrawn;
 }
 
 -- an order shows lots again after a share of n
@@ -73,7 +73,7 @@ unfoldable pub afterRound : Settings → Terms → ℕ → List ℕ → List ℕ
 afterRound s e n cs shares m = record {
   orders = eachFrom (λ k o. afterShare (shareAt k cs shares) o) 0 (m .orders);
   queue = kept-by (λ k. not (refills (shareAt k cs shares) (orderAt (m .orders) k))) (m .queue) ++ kept-by (λ k. refills (shareAt k cs shares) (orderAt (m .orders) k)) (m .queue);
-  rows = addRows s (e .direction) n (m .orders) cs shares (m .rows)
+  rows = addRows s (e .direction) n (m .orders) cs shares (m .rows);
 }
 
 -- the lots that a round divides: what is left, or all that is visible at the best rate
@@ -104,8 +104,8 @@ unfoldable pub rounds : ℕ → Rule → Settings → Terms → ℕ → ℕ → 
 rounds zero rule s e n left m = record { left = left; market = m }
 rounds (suc more) rule s e n left m =
     elim (stops e left m) [
-      true ↦ record { left = left; market = m }
-    | false ↦ rounds more rule s e n (left - roundLots s e left m) (round rule s e n left m)
+      | true ↦ record { left = left; market = m }
+      | false ↦ rounds more rule s e n (left - roundLots s e left m) (round rule s e n left m)
     ]
 
 -- all rounds of the order numbered n with these terms: each concludes at least one lot, so its sum bounds their number

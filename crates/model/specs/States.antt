@@ -10,5 +10,5 @@ dayOf s = record {
   clock = s .clock;
   orders = take (s .count) (s .orders);
   queue = take (s .count) (s .queue);
-  used = s .used
+  used = s .used;
 }

@@ -40,7 +40,7 @@ takenOut event o = record {
   state = nextState (o .state) event;
   visible = 0;
   hidden = 0;
-  withdrawn = o .withdrawn + lotsOf o
+  withdrawn = o .withdrawn + lotsOf o;
 }
 
 -- the day with another order at place k
@@ -50,7 +50,7 @@ withOrderAt d k o = record {
   clock = d .clock;
   orders = set (d .orders) k o;
   queue = d .queue;
-  used = d .used
+  used = d .used;
 }
 
 -- what an accepted withdrawal does: its lots are withdrawn and released
@@ -60,8 +60,8 @@ withdrawn n w = record {
   world = record {
     day = withOrderAt (w .day) (pred n) (takenOut Withdrawal (orderAt (w .day .orders) (pred n)));
     register = w .register;
-    cover = released (w .cover) (orderAt (w .day .orders) (pred n) .owner) (lotsOf (orderAt (w .day .orders) (pred n)))
-  }
+    cover = released (w .cover) (orderAt (w .day .orders) (pred n) .owner) (lotsOf (orderAt (w .day .orders) (pred n)));
+  };
 }
 
 -- withdraw

@@ -5,3 +5,4 @@ mod theorems;
 pub use state::DayState;
 pub use theorems::every_list_obeys;
 pub use theorems::figures_hold;
+pub use theorems::refills_in_turn;
