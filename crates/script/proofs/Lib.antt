@@ -1,0 +1,5 @@
+mod Numbers
+mod Forms
+mod Listed
+mod Lines
+mod Spaced

@@ -1,0 +1,5 @@
+pub mod Replies
+pub mod Totals
+pub mod Obeyed
+pub mod Lines
+pub mod Kept
