@@ -1,5 +1,6 @@
 -- Reading a word and what follows it.
 use mathlib.Core.Path.{_≡_, refl, sym, ap, subst, _∙_}
+use mathlib.Core.Bool.{Bool}
 use mathlib.Core.List.{List, _∷_, _++_}
 use Prim.Native.Nat.{ℕ, _<_}
 use native.Mathlib.Omega.{arith}
@@ -63,9 +64,9 @@ module _ {A B : Type 0} (FA : A → Type 0) (fa : A → List ℕ) (FB : B → Ty
   then-first text r w v split some unread x fits is =
       unread (x .first) (fits .0) (same-words text _ _ r (w, v) split some (plain (x .first) (fits .0)) is .0)
 
-  pub then-rest : (text : List ℕ) (r : Option (RefT (List ℕ) × RefT (List ℕ))) (w v : RefT (List ℕ)) (e : Unread) → SplitAt 32 text r → r ≡ Some (w, v) → Reads FB fb (v .now) (Err e) → Reads Fits form text (Err e)
-  then-rest text r w v NoMemory split some unread = tt
-  then-rest text r w v NoForm split some unread = λ x fits is.
+  pub then-rest : (b : Bool) (text : List ℕ) (r : Option (RefT (List ℕ) × RefT (List ℕ))) (w v : RefT (List ℕ)) (e : Unread) → SplitAt 32 text r → r ≡ Some (w, v) → Reads b FB fb (v .now) (Err e) → Reads b Fits form text (Err e)
+  then-rest b text r w v NoMemory split some unread = unread
+  then-rest b text r w v NoForm split some unread = λ x fits is.
       unread (x .rest) (fits .1) (same-words text _ _ r (w, v) split some (plain (x .first) (fits .0)) is .1)
 
   pub then-both : (text : List ℕ) (r : Option (RefT (List ℕ) × RefT (List ℕ))) (w v : RefT (List ℕ)) (a : A) (b : B) → SplitAt 32 text r → r ≡ Some (w, v) → FA a × (w .now ≡ fa a) → FB b × (v .now ≡ fb b) → (FA a × FB b) × (text ≡ fa a ++ (32 ∷ fb b))
@@ -94,7 +95,7 @@ module _ {A B : Type 0} (FA : A → Type 0) (fa : A → List ℕ) (FB : B → Ty
   pub more-first : (text : List ℕ) (r : Option (RefT (List ℕ) × RefT (List ℕ))) (w v : RefT (List ℕ)) → SplitAt 32 text r → r ≡ Some (w, v) → ((x : A) → FA x → w .now ≡ fa x → ⊥) → (x : ThenMore A B) → FA (x .first) × Cases (x .more) (Unit {0}) FB → text ≡ followed (fa (x .first)) (mapped fb (x .more)) → ⊥
   more-first text r w v split some unread x fits is = unread (x .first) (fits .0) (more-two text r w v split some (x .first) (x .more) (fits .0) (fits .1) is .0)
 
-  pub more-rest : (text : List ℕ) (r : Option (RefT (List ℕ) × RefT (List ℕ))) (w v : RefT (List ℕ)) (e : Unread) → SplitAt 32 text r → r ≡ Some (w, v) → Reads FB fb (v .now) (Err e) → Reads FitsMore formMore text (Err e)
-  more-rest text r w v NoMemory split some unread = tt
-  more-rest text r w v NoForm split some unread = λ x fits is.
+  pub more-rest : (b : Bool) (text : List ℕ) (r : Option (RefT (List ℕ) × RefT (List ℕ))) (w v : RefT (List ℕ)) (e : Unread) → SplitAt 32 text r → r ≡ Some (w, v) → Reads b FB fb (v .now) (Err e) → Reads b FitsMore formMore text (Err e)
+  more-rest b text r w v NoMemory split some unread = unread
+  more-rest b text r w v NoForm split some unread = λ x fits is.
       let p = more-two text r w v split some (x .first) (x .more) (fits .0) (fits .1) is in unread (p .1 .0) (p .1 .1) (p .1 .2)

@@ -29,7 +29,7 @@ use Rattle.std.specs.shelf.Lists.{All}
 use Rattle.std.specs.shelf.Text.{sameBytes}
 use Rattle.script.specs.Commands.{Fits, written, lineOf}
 use Rattle.script.specs.Reads.{Reads}
-use Rattle.script.specs.Verbs.{verbWord}
+use Rattle.script.specs.Verbs.{allocates, verbWord}
 use Rattle.script.specs.Words.{ruleWord, baseWord, followed, numbers}
 use Rattle.script.specs.declared.command.Command.{Command}
 use Rattle.script.specs.declared.command.Command.the-variants as command
@@ -236,8 +236,20 @@ no-verb-first line r w v split some = no-verb line (w .now) (first-before line r
 pub line-of : (line : List ℕ) (r : Option (RefT (List ℕ) × RefT (List ℕ))) (w t : RefT (List ℕ)) (v : Verb) → SplitAt 32 line r → r ≡ Some (w, t) → w .now ≡ verbWord v → line ≡ lineOf v (t .now)
 line-of line r w t v split some is = word-lacks line r (w, t) split some .0 ∙ ap (λ (l : List ℕ). l ++ (32 ∷ t .now)) is
 
-pub usage : (line text : List ℕ) (v : Verb) (e : Unread) → line ≡ lineOf v text → Reads Fits written (lineOf v text) (Err e) → Parses line (Err (faultOf v e))
-usage line text v NoMemory is none = tt
+only-share : (v : Verb) → allocates v ≡ true → v ≡ verb.Share
+only-share verb.Clearing e = cc
+only-share verb.Limit e = cc
+only-share verb.Pots e = cc
+only-share verb.Cap e = cc
+only-share verb.Cover e = cc
+only-share verb.Need e = cc
+only-share verb.Left e = cc
+only-share verb.Reserve e = cc
+only-share verb.Release e = cc
+only-share verb.Share e = refl
+
+pub usage : (line text : List ℕ) (v : Verb) (e : Unread) → line ≡ lineOf v text → Reads (allocates v) Fits written (lineOf v text) (Err e) → Parses line (Err (faultOf v e))
+usage line text v NoMemory is none = ap firstWord is ∙ firstWord-space (verbWord v) text (verb-lacks-space v) ∙ ap verbWord (only-share v none)
 usage line text v NoForm is none = ((λ c f e. none c f (sym is ∙ e)), ap firstWord is ∙ firstWord-space (verbWord v) text (verb-lacks-space v))
 
 -- a line whose first word is v is that of a command with v's arguments
@@ -253,9 +265,9 @@ line-parts v text c f e = ⊎-elim {A = c ≡ command.CoverAll} {B = Parts c} al
         subst (λ (w : Verb). (x : Arguments w) × argFits w x × (text ≡ argForm w x)) (sym (same-verb v (p .verb) (q .0))) (p .args, p .fits, q .1)
 
 -- arguments that are not read leave no command of the line
-pub unread-line : (v : Verb) (text : List ℕ) (e : Unread) → Reads (argFits v) (argForm v) text (Err e) → Reads Fits written (lineOf v text) (Err e)
-unread-line v text NoMemory unread = tt
-unread-line v text NoForm unread = λ c f is. let p = line-parts v text c f is in unread (p .0) (p .1) (p .2)
+pub unread-line : (b : Bool) (v : Verb) (text : List ℕ) (e : Unread) → Reads b (argFits v) (argForm v) text (Err e) → Reads b Fits written (lineOf v text) (Err e)
+unread-line b v text NoMemory unread = unread
+unread-line b v text NoForm unread = λ c f is. let p = line-parts v text c f is in unread (p .0) (p .1) (p .2)
 
 abbrev formOf : Numbers → List ℕ
 formOf ns = numbers (vec-items (ns .all))

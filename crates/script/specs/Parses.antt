@@ -10,6 +10,7 @@ use Rattle.script.specs.Commands.{Fits, written}
 use Rattle.script.specs.Verbs.{verbWord}
 use Rattle.script.specs.declared.command.Command.{Command}
 use Rattle.script.specs.declared.command.Verb.{Verb}
+use Rattle.script.specs.declared.command.Verb.the-variants as verb
 use Rattle.script.specs.declared.form.Unread.{Unread}
 use Rattle.script.specs.declared.form.Unread.the-variants as unread
 use Rattle.script.specs.declared.reading.Fault.{Fault}
@@ -24,12 +25,12 @@ firstWord (b ∷ bs) = cond (eqb b 32) [] (b ∷ firstWord bs)
 abbrev pub NoCommand : List ℕ → Type 0
 NoCommand line = (c : Command) → Fits c → line ≡ written c → ⊥
 
--- r is the command that line is the written form of; else there is none, and the fault goes by the first word; or memory ran out
+-- r is the command that line is the written form of; else there is none, and the fault goes by the first word; or memory ran out for the sums of a share
 abbrev pub Parses : List ℕ → Result Command Fault → Type 0
 Parses line (Ok c) = Fits c × (line ≡ written c)
 Parses line (Err Unknown) = NoCommand line × ((v : Verb) → firstWord line ≡ verbWord v → ⊥)
 Parses line (Err (Usage v)) = NoCommand line × (firstWord line ≡ verbWord v)
-Parses line (Err NoMemory) = Unit {0}
+Parses line (Err NoMemory) = firstWord line ≡ verbWord verb.Share
 
 -- the fault of a line whose first word is v and whose arguments were not read
 abbrev pub faultOf : Verb → Unread → Fault

@@ -1,6 +1,6 @@
 use mathlib.Core.Path.{_≡_}
 use mathlib.Core.List.{List}
-use mathlib.Core.Bool.{Bool, not, _&&_, _||_}
+use mathlib.Core.Bool.{Bool, true, not, _&&_, _||_}
 use Prim.Native.Nat.{ℕ}
 use lib.Dec.{eqb, ltb}
 use lib.ListN.{length, getD}
@@ -16,11 +16,11 @@ abbrev pub ReadsWord : {T : Type 0} → (T → Type 0) → (T → List ℕ) → 
 ReadsWord Fits form word (Some x) = Fits x × (word ≡ form x)
 ReadsWord {T = T} Fits form word None = (x : T) → Fits x → word ≡ form x → ⊥
 
--- r is the value that text is the written form of; there is none; or memory ran out
-abbrev pub Reads : {T : Type 0} → (T → Type 0) → (T → List ℕ) → List ℕ → Result T Unread → Type 0
-Reads Fits form text (Ok x) = Fits x × (text ≡ form x)
-Reads {T = T} Fits form text (Err NoForm) = (x : T) → Fits x → text ≡ form x → ⊥
-Reads Fits form text (Err NoMemory) = Unit {0}
+-- r is the value that text is the written form of; there is none; or memory ran out, if reading it may need memory
+abbrev pub Reads : {T : Type 0} → Bool → (T → Type 0) → (T → List ℕ) → List ℕ → Result T Unread → Type 0
+Reads allocates Fits form text (Ok x) = Fits x × (text ≡ form x)
+Reads {T = T} allocates Fits form text (Err NoForm) = (x : T) → Fits x → text ≡ form x → ⊥
+Reads allocates Fits form text (Err NoMemory) = allocates ≡ true
 
 -- digits that begin as a number is written: no sign, and no zero before others
 abbrev pub beginsPlain : List ℕ → Bool

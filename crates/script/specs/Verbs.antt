@@ -1,4 +1,5 @@
 -- The first word of a command that has others.
+use mathlib.Core.Bool.{Bool, true, false}
 use mathlib.Core.List.{List}
 use Prim.Native.Nat.{ℕ}
 use lib.Chars.{codes}
@@ -16,3 +17,16 @@ verbWord verb.Left = codes "left"
 verbWord verb.Reserve = codes "reserve"
 verbWord verb.Release = codes "release"
 verbWord verb.Share = codes "share"
+
+-- only a list of sums needs memory to be read
+abbrev pub allocates : Verb → Bool
+allocates verb.Clearing = false
+allocates verb.Limit = false
+allocates verb.Pots = false
+allocates verb.Cap = false
+allocates verb.Cover = false
+allocates verb.Need = false
+allocates verb.Left = false
+allocates verb.Reserve = false
+allocates verb.Release = false
+allocates verb.Share = true

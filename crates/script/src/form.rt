@@ -1,4 +1,5 @@
 // Written forms: a word of a line, and words one after another with a space between.
+ghost use mathlib.Core.Bool.{Bool, true, false};
 ghost use mathlib.Core.Path.{_≡_};
 ghost use mathlib.Core.List.{List, _∷_, _++_};
 ghost use Prim.Native.Nat.{ℕ, _^_, _<_};
@@ -83,12 +84,15 @@ pub impl Word for BaseKind as BaseWord {
 
 // A value that is written as words with a space between each two.
 pub trait Written: Sized {
+    // Whether reading it may need memory.
+    ghost allocates: { Bool };
+
     ghost fits: { Self → Type 0 };
 
     ghost form: { Self → List ℕ };
 
     fn read(heap: Global, text: &str) -> Result<Self, Unread>
-        ensures { λ r. ⌜ Reads fits form (now (text .entry)) r ⌝ };
+        ensures { λ r. ⌜ Reads allocates fits form (now (text .entry)) r ⌝ };
 }
 
 // One word, the last of a line.
@@ -98,6 +102,8 @@ pub struct Last<A> {
 }
 
 pub impl<A: Word> Written for Last<A> as LastWritten {
+    ghost allocates = { false };
+
     ghost fits = { λ x. A·Word .fits (x .word) };
 
     ghost form = { λ x. A·Word .form (x .word) };
@@ -118,6 +124,8 @@ pub struct Then<A, B> {
 }
 
 pub impl<A: Word + Drop, B: Written> Written for Then<A, B> as ThenWritten {
+    ghost allocates = { B·Written .allocates };
+
     ghost fits = { λ x. A·Word .fits (x .first) × B·Written .fits (x .rest) };
 
     ghost form = { λ x. A·Word .form (x .first) ++ (32 ∷ B·Written .form (x .rest)) };
@@ -142,6 +150,8 @@ pub struct ThenMore<A, B> {
 }
 
 pub impl<A: Word + Drop, B: Written> Written for ThenMore<A, B> as ThenMoreWritten {
+    ghost allocates = { B·Written .allocates };
+
     ghost fits = { λ x. A·Word .fits (x .first) × Cases (x .more) (Unit {0}) (B·Written .fits) };
 
     ghost form = { λ x. followed (A·Word .form (x .first)) (mapped (B·Written .form) (x .more)) };
@@ -171,6 +181,8 @@ pub struct Numbers {
 }
 
 pub impl Written for Numbers as NumbersWritten {
+    ghost allocates = { true };
+
     ghost fits = { λ x. (0 < length (vec-items (x .all))) × All (λ n. n < 2 ^ 32) (vec-items (x .all)) };
 
     ghost form = { λ x. numbers (vec-items (x .all)) };

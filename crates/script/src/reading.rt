@@ -1,4 +1,5 @@
 // A line read to the command that it is the written form of.
+ghost use mathlib.Core.Bool.{true, false};
 ghost use mathlib.Core.Path.{_≡_};
 ghost use Rattle.std.specs.Of.Vec.{vec-items};
 ghost use Rattle.std.specs.Pieces.{Lacks};
@@ -6,7 +7,7 @@ ghost use Rattle.script.specs.Commands.{Fits, written, lineOf};
 ghost use Rattle.script.specs.Parses.{Parses, faultOf};
 ghost use Rattle.script.specs.Forms.{listed};
 ghost use Rattle.script.specs.Reads.{Reads};
-ghost use Rattle.script.specs.Verbs.{verbWord};
+ghost use Rattle.script.specs.Verbs.{allocates, verbWord};
 ghost use Rattle.script.specs.declared.command.Verb.the-variants.{Clearing, Limit, Pots, Cap, Cover, Need, Left, Reserve, Release, Share};
 use crate::command::Command;
 use crate::command::Verb;
@@ -42,7 +43,7 @@ type TwoNumbers = Then<u32, Last<u32>>;
 type ThreeNumbers = Then<u32, TwoNumbers>;
 
 fn clearing(heap: Global, text: &str) -> Result<Command, Unread>
-    ensures { λ r. ⌜ Reads Fits written (lineOf Clearing (now (text .entry))) r ⌝ }
+    ensures { λ r. ⌜ Reads false Fits written (lineOf Clearing (now (text .entry))) r ⌝ }
 {
     let read = <Then<BaseKind, Last<u32>>>::read(heap, text)?;
     let Then {
@@ -53,7 +54,7 @@ fn clearing(heap: Global, text: &str) -> Result<Command, Unread>
 }
 
 fn limit(heap: Global, text: &str) -> Result<Command, Unread>
-    ensures { λ r. ⌜ Reads Fits written (lineOf Limit (now (text .entry))) r ⌝ }
+    ensures { λ r. ⌜ Reads false Fits written (lineOf Limit (now (text .entry))) r ⌝ }
 {
     let read = <TwoNumbers>::read(heap, text)?;
     let Then {
@@ -64,7 +65,7 @@ fn limit(heap: Global, text: &str) -> Result<Command, Unread>
 }
 
 fn pots(heap: Global, text: &str) -> Result<Command, Unread>
-    ensures { λ r. ⌜ Reads Fits written (lineOf Pots (now (text .entry))) r ⌝ }
+    ensures { λ r. ⌜ Reads false Fits written (lineOf Pots (now (text .entry))) r ⌝ }
 {
     let read = <ThreeNumbers>::read(heap, text)?;
     let Then {
@@ -82,7 +83,7 @@ fn pots(heap: Global, text: &str) -> Result<Command, Unread>
 }
 
 fn cap(heap: Global, text: &str) -> Result<Command, Unread>
-    ensures { λ r. ⌜ Reads Fits written (lineOf Cap (now (text .entry))) r ⌝ }
+    ensures { λ r. ⌜ Reads false Fits written (lineOf Cap (now (text .entry))) r ⌝ }
 {
     let read = <ThreeNumbers>::read(heap, text)?;
     let Then {
@@ -100,7 +101,7 @@ fn cap(heap: Global, text: &str) -> Result<Command, Unread>
 }
 
 fn cover(heap: Global, text: &str) -> Result<Command, Unread>
-    ensures { λ r. ⌜ Reads Fits written (lineOf Cover (now (text .entry))) r ⌝ }
+    ensures { λ r. ⌜ Reads false Fits written (lineOf Cover (now (text .entry))) r ⌝ }
 {
     let read = <Last<u32>>::read(heap, text)?;
     let Last { word: participant } = read;
@@ -108,7 +109,7 @@ fn cover(heap: Global, text: &str) -> Result<Command, Unread>
 }
 
 fn need(heap: Global, text: &str) -> Result<Command, Unread>
-    ensures { λ r. ⌜ Reads Fits written (lineOf Need (now (text .entry))) r ⌝ }
+    ensures { λ r. ⌜ Reads false Fits written (lineOf Need (now (text .entry))) r ⌝ }
 {
     let read = <ThreeNumbers>::read(heap, text)?;
     let Then {
@@ -126,7 +127,7 @@ fn need(heap: Global, text: &str) -> Result<Command, Unread>
 }
 
 fn left(heap: Global, text: &str) -> Result<Command, Unread>
-    ensures { λ r. ⌜ Reads Fits written (lineOf Left (now (text .entry))) r ⌝ }
+    ensures { λ r. ⌜ Reads false Fits written (lineOf Left (now (text .entry))) r ⌝ }
 {
     let read = <Last<u32>>::read(heap, text)?;
     let Last { word: participant } = read;
@@ -134,7 +135,7 @@ fn left(heap: Global, text: &str) -> Result<Command, Unread>
 }
 
 fn reserve(heap: Global, text: &str) -> Result<Command, Unread>
-    ensures { λ r. ⌜ Reads Fits written (lineOf Reserve (now (text .entry))) r ⌝ }
+    ensures { λ r. ⌜ Reads false Fits written (lineOf Reserve (now (text .entry))) r ⌝ }
 {
     let read = <TwoNumbers>::read(heap, text)?;
     let Then {
@@ -145,7 +146,7 @@ fn reserve(heap: Global, text: &str) -> Result<Command, Unread>
 }
 
 fn release(heap: Global, text: &str) -> Result<Command, Unread>
-    ensures { λ r. ⌜ Reads Fits written (lineOf Release (now (text .entry))) r ⌝ }
+    ensures { λ r. ⌜ Reads false Fits written (lineOf Release (now (text .entry))) r ⌝ }
 {
     let read = <TwoNumbers>::read(heap, text)?;
     let Then {
@@ -166,7 +167,7 @@ fn sums_of(heap: Global, more: Option<Numbers>) -> Vec<u32>
 }
 
 fn share(heap: Global, text: &str) -> Result<Command, Unread>
-    ensures { λ r. ⌜ Reads Fits written (lineOf Share (now (text .entry))) r ⌝ }
+    ensures { λ r. ⌜ Reads true Fits written (lineOf Share (now (text .entry))) r ⌝ }
 {
     let read = <Then<Rule, Then<u32, ThenMore<u32, Numbers>>>>::read(heap, text)?;
     let Then {
@@ -190,7 +191,7 @@ fn share(heap: Global, text: &str) -> Result<Command, Unread>
 
 // The command whose first word is `verb`, by what follows it.
 fn with_arguments(heap: Global, verb: Verb, text: &str) -> Result<Command, Unread>
-    ensures { λ r. ⌜ Reads Fits written (lineOf verb (now (text .entry))) r ⌝ }
+    ensures { λ r. ⌜ Reads (allocates verb) Fits written (lineOf verb (now (text .entry))) r ⌝ }
 {
     match verb {
         Verb::Clearing => clearing(heap, text),

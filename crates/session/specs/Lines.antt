@@ -16,7 +16,9 @@ use Rattle.script.specs.declared.answer.Reason.the-variants as reason
 use Rattle.script.specs.declared.command.Command.{Command}
 use Rattle.script.specs.declared.reading.Fault.{Fault}
 use Rattle.script.specs.declared.reading.Fault.the-variants as fault
-use Rattle.script.specs.Parses.{Parses}
+use Rattle.script.specs.Parses.{Parses, firstWord}
+use Rattle.script.specs.Verbs.{verbWord}
+use Rattle.script.specs.declared.command.Verb.the-variants.{Share}
 use Rattle.session.specs.Replies.{Reply, inLine}
 use Rattle.session.specs.Obeyed.{Answers, after}
 
@@ -45,11 +47,12 @@ pub record Spoken (m : Makeup) (line : List ℕ) (r : Result Reply Reason) (left
   pub binary : length line ≤ 4096 → (Utf8 line → ⊥) → (r ≡ Err reason.NotText) × (left ≡ m)
   pub text : length line ≤ 4096 → Utf8 line → Heard m line r left
 
--- memory ran out while a line of text was read or answered, and nothing changed
+-- memory ran out while a line that begins a share was read or answered, and nothing changed
 pub record Unread (m : Makeup) (line : List ℕ) (left : Makeup) : Type 0 where
   pub command : passedOver line ≡ false
   pub short : length line ≤ 4096
   pub text : Utf8 line
+  pub share : firstWord line ≡ verbWord Share
   pub same : left ≡ m
 
 -- line n is passed over and changes nothing, or what is said of it is the answer

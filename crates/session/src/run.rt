@@ -8,6 +8,9 @@ ghost use Rattle.clearing.specs.Makeup.{plain};
 ghost use Rattle.pile.specs.Piles.{pileMakeup};
 ghost use Rattle.session.specs.Replies.{said, saidIf, replyOf, inLine};
 ghost use Rattle.session.specs.Obeyed.{Answers, after, NeedsMemory};
+ghost use Rattle.script.specs.Parses.{firstWord};
+ghost use Rattle.script.specs.Verbs.{verbWord};
+ghost use Rattle.script.specs.declared.command.Verb.the-variants.{Share};
 ghost use Rattle.session.specs.Lines.{Heard, Spoken, Unread, Answered, passedOver, nextLine};
 use crate::obeying;
 use pile::BaseKind;
@@ -107,7 +110,7 @@ fn spoken(pile: &mut Pile, heap: Global, line: &[u8]) -> Result<Result<Answer, R
 
 /// What is said of a line that is text.
 fn heard(pile: &mut Pile, heap: Global, line: &str) -> Result<Result<Answer, Reason>, AllocError>
-    ensures { λ r. ⌜ Cases r (λ a. Heard (pileMakeup (now (pile .entry))) (now (line .entry)) (said a) (pileMakeup (now (pile .exit)))) (λ _. pileMakeup (now (pile .exit)) ≡ pileMakeup (now (pile .entry))) ⌝ }
+    ensures { λ r. ⌜ Cases r (λ a. Heard (pileMakeup (now (pile .entry))) (now (line .entry)) (said a) (pileMakeup (now (pile .exit)))) (λ _. (firstWord (now (line .entry)) ≡ verbWord Share) × (pileMakeup (now (pile .exit)) ≡ pileMakeup (now (pile .entry)))) ⌝ }
 {
     match parse(heap, line) {
         Ok(command) => obeying::obey(pile, heap, &command),

@@ -1,3 +1,4 @@
+use mathlib.Core.Bool.{true}
 use Rattle.std.proofs.shelf.Results.{err-from-errBy}
 use Rattle.script.specs.declared.command.Verb.the-variants.{Share}
 use mathlib.Core.List.{List, _∷_, _++_}
@@ -13,7 +14,7 @@ use Rattle.script.proofs.reading.share.Needs as need
 pub returns-in-Break-read : need.returns-in-Break-read
 returns-in-Break-read c =
     let p = err-from-errBy (c .from-residual .result) (c .from-residual .ensures .1) in
-    rw (p .1, p .2) (unread-line Share (c .args .text .now) _ (c .in-Break-read .ensures tt))
+    rw (p .1, p .2) (unread-line true Share (c .args .text .now) _ (c .in-Break-read .ensures tt))
 
 pub returns : need.returns
 returns c =

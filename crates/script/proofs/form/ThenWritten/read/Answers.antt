@@ -13,7 +13,7 @@ returns-in-rest-read g c =
 pub returns-in-Break-rest : need.returns-in-Break-rest
 returns-in-Break-rest g c =
     let p = err-from-errBy (c .from-residual .result) (c .from-residual .ensures .1) in
-    rw (p .1, p .2) (then-rest (g .A·Word .fits) (g .A·Word .form) (g .B·Written .fits) (g .B·Written .form) (g .A·Word·met .plain) (c .args .text .now) (c .split-once .result) (c .in-Some .word) (c .in-Some .after) _ (c .split-once .ensures .cases) (c .in-Some .is) (c .in-Break-rest .ensures tt))
+    rw (p .1, p .2) (then-rest (g .A·Word .fits) (g .A·Word .form) (g .B·Written .fits) (g .B·Written .form) (g .A·Word·met .plain) (g .B·Written .allocates) (c .args .text .now) (c .split-once .result) (c .in-Some .word) (c .in-Some .after) _ (c .split-once .ensures .cases) (c .in-Some .is) (c .in-Break-rest .ensures tt))
 
 pub returns : need.returns
 returns g c =
