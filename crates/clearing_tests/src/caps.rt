@@ -1,4 +1,4 @@
-use crate::refusals::number;
+use crate::number;
 use clearing::Cap;
 use clearing::CapClearing;
 use clearing::Clearing;

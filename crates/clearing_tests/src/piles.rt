@@ -1,4 +1,4 @@
-use crate::refusals::part_number;
+use crate::part_number;
 use clearing::Clearing;
 use pile::BaseKind;
 use pile::Pile;

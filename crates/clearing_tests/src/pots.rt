@@ -1,4 +1,4 @@
-use crate::refusals::number;
+use crate::number;
 use clearing::Clearing;
 use clearing::PotsClearing;
 use clearing::TwoPots;

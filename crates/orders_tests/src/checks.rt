@@ -2,17 +2,30 @@ use crate::samples::DEPOSIT;
 use crate::samples::MARKET;
 use crate::samples::REPO;
 use crate::samples::WAITING;
-use crate::samples::refused;
 use orders::Code;
 use orders::Direction;
 use orders::Kind;
 use orders::Mode;
 use orders::Rate;
 use orders::Remainder;
+use orders::Settings;
 use orders::Terms;
+use orders::check_terms;
 use orders::lawful_code;
 use orders::waits;
 use std::test::*;
+
+/// The number of the refusal at opening time, 0 if there is none.
+/// Percents are from 10 to 50, the least sum is 5 and the least iceberg sum 20.
+fn refused(mode: Mode, participant: u32, terms: Terms) -> u32 {
+    match Settings::new(mode, 10, 50, 5, 20, 4_096) {
+        Ok(settings) => match check_terms(&settings, 34_200, participant, &terms) {
+            Some(refusal) => refusal.number(),
+            None => 0,
+        },
+        Err(refusal) => refusal.number(),
+    }
+}
 
 #[test]
 fn participants() -> Result<(), Fail> {

@@ -5,6 +5,7 @@ ghost use lib.Chars.{codes};
 ghost use Rattle.std.specs.Of.String.{string-bytes};
 ghost use Rattle.std.specs.Of.Vec.{vec-items};
 ghost use Rattle.std.specs.Vec.{made};
+ghost use Rattle.script.specs.declared.answer.Answer.the-variants.{Refused, Bad};
 ghost use Rattle.script.specs.Answers.{answerLine, reasonText, verdictWord, usageText, eachSpaced};
 use crate::command::Verb;
 use clearing::Refusal;
@@ -118,6 +119,20 @@ fn shares_text(heap: Global, shares: &[u32]) -> Result<String, AllocError>
     Ok(text)
 }
 
+fn refused_text(heap: Global, refusal: Refusal) -> Result<String, AllocError>
+    ensures { λ r. ⌜ made r (λ s. string-bytes s ≡ answerLine (Refused refusal)) ⌝ }
+{
+    let number = refusal.number();
+    format!(heap, "refused {number}")
+}
+
+fn bad_text(heap: Global, line: u64, reason: Reason) -> Result<String, AllocError>
+    ensures { λ r. ⌜ made r (λ s. string-bytes s ≡ answerLine (Bad line reason)) ⌝ }
+{
+    let why = reason_text(reason);
+    format!(heap, "bad line {line}: {why}")
+}
+
 /// The line that an answer is written as.
 pub fn write(heap: Global, answer: &Answer) -> Result<String, AllocError>
     ensures { λ r. ⌜ made r (λ s. string-bytes s ≡ answerLine (now (answer .entry))) ⌝ }
@@ -125,10 +140,7 @@ pub fn write(heap: Global, answer: &Answer) -> Result<String, AllocError>
     match answer {
         Answer::ClearingReady => String::from_str(heap, "clearing ok"),
         Answer::Set => String::from_str(heap, "set"),
-        Answer::Refused(refusal) => {
-            let number = refusal.number();
-            format!(heap, "refused {number}")
-        }
+        Answer::Refused(refusal) => refused_text(heap, *refusal),
         Answer::Cover {
             participant,
             free,
@@ -159,9 +171,6 @@ pub fn write(heap: Global, answer: &Answer) -> Result<String, AllocError>
         }
         Answer::Verdict(said) => String::from_str(heap, verdict(*said)),
         Answer::Shares(shares) => shares_text(heap, shares.as_slice()),
-        Answer::Bad { line, reason } => {
-            let why = reason_text(*reason);
-            format!(heap, "bad line {line}: {why}")
-        }
+        Answer::Bad { line, reason } => bad_text(heap, *line, *reason),
     }
 }
