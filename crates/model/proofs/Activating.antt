@@ -33,7 +33,8 @@ use Rattle.model.proofs.Entries.{entry}
 use Rattle.model.proofs.PlaceLaws.{fails-little, little-fails}
 use Rattle.model.proofs.NamedRows.{named-append}
 use Rattle.model.proofs.RowSums.{named-entering}
-use Rattle.model.proofs.Sound.{SoundOrder, SoundEntry, Met}
+use Rattle.model.specs.Sound.{SoundOrder}
+use Rattle.model.proofs.Sound.{SoundEntry, Met}
 use Rattle.model.proofs.SoundDays.{SoundPlace, SoundDay, lots-held, take-written}
 use Rattle.model.proofs.TurnedDays.{ended-sound}
 use Rattle.model.proofs.Turns.{Turned, turned-met}

@@ -29,7 +29,7 @@ use Rattle.model.proofs.OneRound.{Offer, Round, no-offer, round-lawful, round-
 use Rattle.model.proofs.Places.{count-parted}
 use Rattle.model.proofs.RowSums.{Partner}
 use Rattle.model.specs.Calls.{LawfulRule}
-use Rattle.model.proofs.Sound.{SoundMarket}
+use Rattle.model.specs.Sound.{SoundMarket}
 use Rattle.model.proofs.Totals.{total-same, total-add, total-zero, part-le-total, meets-admissible, admissible-meets}
 
 -- the lots that order n with the terms e concluded with the order at each place, by the rows of a market

@@ -23,7 +23,7 @@ use Rattle.model.proofs.Closing.{closed, states}
 use Rattle.model.proofs.Covered.{owned}
 use Rattle.model.proofs.Placing.{visible-is}
 use Rattle.model.proofs.Depths.{report-law}
-use Rattle.model.proofs.Sound.{SoundOrder}
+use Rattle.model.specs.Sound.{SoundOrder}
 use Rattle.model.proofs.SoundDays.{SoundPlace, SoundDay, opening-sound}
 use Rattle.model.proofs.Steps.{stepped, called, older}
 use Rattle.model.proofs.Totals.{total-same, total-sumBy}

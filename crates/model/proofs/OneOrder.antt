@@ -16,7 +16,7 @@ use Rattle.orders.proofs.Rounding.{visible-bounds}
 use Rattle.model.specs.Entry.{Touched}
 use Rattle.model.specs.Market.{lotsOf}
 use Rattle.model.specs.Rounds.{concluded, spent, shownAgain, refills, afterShare}
-use Rattle.model.proofs.Sound.{SoundOrder}
+use Rattle.model.specs.Sound.{SoundOrder}
 
 -- the visible sum is at least 1 and at most the sum
 pub visible-some : (sum percent : ℕ) → 1 ≤ sum → percent ≤ 100 → 1 ≤ visibleSum sum percent

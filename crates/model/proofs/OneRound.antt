@@ -32,7 +32,7 @@ use Rattle.model.proofs.OneOrder.{visible-within, share-terms}
 use Rattle.model.proofs.Places.{each-at, each-length, each-count, count-kept, all-counted, all-from-counted, few-places, share-total, share-within}
 use Rattle.model.proofs.RowSums.{Partner, concludedWith-addRows, newRows-addRows, single-addRows}
 use Rattle.model.specs.Calls.{LawfulRule}
-use Rattle.model.proofs.Sound.{SoundOrder, SoundMarket}
+use Rattle.model.specs.Sound.{SoundOrder, SoundMarket}
 use Rattle.model.proofs.Totals.{meets-admissible}
 
 -- an order concludes at its own rate

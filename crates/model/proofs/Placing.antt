@@ -33,7 +33,8 @@ use Rattle.model.proofs.Covered.{covers-reserved, releases-released, covers-pa
 use Rattle.model.proofs.OneOrder.{visible-some}
 use Rattle.model.proofs.NamedRows.{named-append}
 use Rattle.model.proofs.RowSums.{named-entering}
-use Rattle.model.proofs.Sound.{SoundOrder, SoundEntry, Met}
+use Rattle.model.specs.Sound.{SoundOrder}
+use Rattle.model.proofs.Sound.{SoundEntry, Met}
 use Rattle.model.proofs.SoundDays.{SoundPlace, SoundDay, take-written}
 use Rattle.model.proofs.Tables.{Passed, decides-rests}
 use Rattle.model.proofs.Totals.{admissible-meets}

@@ -25,7 +25,7 @@ use Rattle.model.specs.Ledger.{made, namedLots}
 use Rattle.model.specs.Market.{none, orderAt, lotsOf}
 use Rattle.model.specs.Place.{marketOf}
 use Rattle.model.proofs.Covered.{owned}
-use Rattle.model.proofs.Sound.{SoundMarket}
+use Rattle.model.specs.Sound.{SoundMarket}
 use Rattle.model.proofs.Writes.{sums-le}
 
 -- the order at place k of a day that made these rows

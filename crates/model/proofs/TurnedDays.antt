@@ -21,7 +21,7 @@ use Rattle.model.specs.Place.{registered}
 use Rattle.model.specs.PlaceLaw.{Covers}
 use Rattle.model.specs.WithdrawLaw.{Releases}
 use Rattle.model.proofs.Covered.{ofOwner, ofOwner-add, held-covers, held-releases, owned, owned-push, owned-set, owned-same}
-use Rattle.model.proofs.Sound.{SoundOrder, SoundMarket}
+use Rattle.model.specs.Sound.{SoundOrder, SoundMarket}
 use Rattle.model.proofs.SoundDays.{SoundPlace, SoundRows, SoundDay, take-written, drop-written, length-written, written-none}
 use Rattle.model.proofs.Turns.{Turned}
 use Rattle.model.proofs.Writes.{at-push, at-set, sound-push, sound-set}

@@ -26,7 +26,8 @@ use Rattle.model.specs.Place.{marketOf}
 use Rattle.model.specs.Rounds.{Meeting}
 use Rattle.model.proofs.NamedRows.{namesOrder, named-append, unnamed-all, pair-named, single-append}
 use Rattle.model.proofs.RowSums.{named-partner, concludedWith-others}
-use Rattle.model.proofs.Sound.{SoundMarket, Met}
+use Rattle.model.specs.Sound.{SoundMarket}
+use Rattle.model.proofs.Sound.{Met}
 use Rattle.model.proofs.SoundDays.{SoundPlace, SoundRows, SoundDay}
 
 -- an order that a turn left as asked, no more active than it was, and with nothing withdrawn

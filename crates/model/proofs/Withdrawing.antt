@@ -24,7 +24,7 @@ use Rattle.model.specs.Market.{none, orderAt, lotsOf}
 use Rattle.model.specs.Withdraw.{takenOut, withdrawn}
 use Rattle.model.specs.WithdrawLaw.{Ended, Releases, OnlyEnded, Withdrawn}
 use Rattle.model.proofs.Covered.{releases-released}
-use Rattle.model.proofs.Sound.{SoundOrder}
+use Rattle.model.specs.Sound.{SoundOrder}
 use Rattle.model.proofs.SoundDays.{SoundPlace, SoundDay, lots-held}
 use Rattle.model.proofs.Tables.{WithdrawPassed}
 use Rattle.model.proofs.TurnedDays.{keptBy, kept-is, ended-sound}

@@ -20,7 +20,7 @@ use Rattle.orders.specs.declared.kinds.Terms.{Terms}
 use Rattle.model.specs.Choices.{total}
 use Rattle.model.specs.Market.{Market, none, orderAt}
 use Rattle.model.specs.Place.{sameDirection, registered}
-use Rattle.model.proofs.Sound.{SoundOrder, SoundMarket}
+use Rattle.model.specs.Sound.{SoundOrder, SoundMarket}
 use Rattle.model.proofs.Totals.{total-same, total-le, total-sumBy}
 
 -- sums over lists that agree place by place

@@ -21,3 +21,4 @@ pub mod Law
 pub mod States
 pub mod Figures
 pub mod Refills
+pub mod Sound
