@@ -10,7 +10,7 @@ use Rattle.clearing.specs.Book.{empty}
 use Rattle.clearing.specs.Makeup.{Makeup, plain}
 use Rattle.script.specs.declared.answer.Answer.{Answer}
 use Rattle.script.specs.Answers.{answerLine}
-use Rattle.session.specs.Kept.{withByte}
+use Rattle.lines.specs.Kept.{withByte}
 use Rattle.session.specs.Lines.{Answered, nextLine}
 use Rattle.session.specs.Replies.{saidIf}
 

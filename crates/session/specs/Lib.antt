@@ -2,4 +2,3 @@ pub mod Replies
 pub mod Totals
 pub mod Obeyed
 pub mod Lines
-pub mod Kept
