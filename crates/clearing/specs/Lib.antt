@@ -5,4 +5,3 @@ pub mod Refused
 pub mod Seats
 pub mod Sheet
 pub mod TwoPots
-pub mod Caps

@@ -1,13 +1,10 @@
 //! Cover in clearing lots for participants 0 to 63.
-mod caps;
 mod cover;
 mod line;
 mod pots;
 mod purse;
 mod sheet;
 
-pub use caps::Cap;
-pub use caps::CapClearing;
 pub use cover::Clearing;
 pub use cover::Refusal;
 pub use cover::RefusalDebug;

@@ -1,6 +1,6 @@
 //! Tests of the clearings and of the sharing rules, by figures worked out by hand.
 #[cfg(test)]
-mod caps;
+mod cap_layers;
 #[cfg(test)]
 mod piles;
 #[cfg(test)]

@@ -6,7 +6,7 @@ use Rattle.std.specs.declared.option.Option.{Option}
 use Rattle.std.specs.declared.option.Option.the-variants.{Some, None}
 use Rattle.clearing.specs.Book.{Book}
 use Rattle.clearing.specs.Makeup.{Makeup}
-use Rattle.clearing.specs.Caps.{capBook, capMakeup}
+use Rattle.caps.specs.Caps.{capBook, capMakeup}
 use Rattle.pile.specs.Bases.{baseBook, baseMakeup}
 use Rattle.pile.specs.Parts.{emptyBase, stacked}
 use Rattle.pile.specs.declared.base.BaseKind.{BaseKind}

@@ -9,8 +9,8 @@ use crate::base::Base;
 use crate::base::BaseClearing;
 use crate::base::BaseKind;
 use crate::base::SetAnswer;
-use clearing::Cap;
-use clearing::CapClearing;
+use caps::Cap;
+use caps::CapClearing;
 use clearing::Clearing;
 
 /// A base with no cap, one cap or two caps on it.

@@ -1,4 +1,4 @@
-use Rattle.clearing.specs.Caps.{countBook, capBook}
+use Rattle.caps.specs.Caps.{countBook, capBook}
 use Rattle.pile.specs.Bases.{baseBook}
 use Rattle.pile.specs.Piles.{pileBook}
 use Rattle.pile.specs.declared.layers.Pile.{Pile}

@@ -4,15 +4,15 @@ ghost use mathlib.Core.Bool.{cond};
 ghost use ghost.Atoms.{sem};
 ghost use denote.Follow.{follows};
 ghost use denote.Ref.{name};
 ghost use Rattle.clearing.specs.Book.{Book, canReserve, reserved, toHeld, canRelease, released, toFree, empty, total, settable, limited};
 ghost use Rattle.clearing.specs.Refused.{refusedWith, refusedUnless};
 ghost use Rattle.clearing.specs.Makeup.{taken, returned};
-ghost use Rattle.clearing.specs.Caps.{countBook, capBook, capMakeup};
-ghost use Rattle.clearing.specs.contracts.caps.Cap.{the-row};
-use crate::cover::Clearing;
-use crate::cover::Refusal;
-use crate::sheet::LimitSheet;
-use crate::sheet::SheetClearing;
+ghost use Rattle.caps.specs.Caps.{countBook, capBook, capMakeup};
+ghost use Rattle.caps.specs.contracts.Cap.{the-row};
+use clearing::Clearing;
+use clearing::LimitSheet;
+use clearing::Refusal;
+use clearing::SheetClearing;
 
 /// Grants no more than the clearing below and no more than its own cap less its count.
 #[derive(Drop)]

@@ -1,6 +1,6 @@
 use crate::number;
-use clearing::Cap;
-use clearing::CapClearing;
+use caps::Cap;
+use caps::CapClearing;
 use clearing::Clearing;
 use clearing::LimitSheet;
 use clearing::SheetClearing;

@@ -1,8 +1,8 @@
 -- A cap over a clearing, given what the clearing below means.
 use Rattle.clearing.specs.Book.{Book}
 use Rattle.clearing.specs.Makeup.{Makeup, capped, lesser}
 use Rattle.clearing.specs.Sheet.{sheetBook}
-use Rattle.clearing.specs.declared.caps.Cap.{Cap}
+use Rattle.caps.specs.declared.Cap.{Cap}
 
 module _ {C : Type 0} where
   -- the layer's own figures: the count is held, the cap less the count is free
