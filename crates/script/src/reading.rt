@@ -240,8 +240,8 @@ fn alone(line: &str) -> Result<Command, Fault>
     }
 }
 
-// The command that a line is the written form of.
-pub fn parse(heap: Global, line: &str) -> Result<Command, Fault>
+// A line read by its first word.
+fn read_line(heap: Global, line: &str) -> Result<Command, Fault>
     ensures { λ r. ⌜ Parses (now (line .entry)) r ⌝ }
 {
     let Some((word, text)) = line.split_once(' ') else {
@@ -254,4 +254,11 @@ pub fn parse(heap: Global, line: &str) -> Result<Command, Fault>
         Ok(command) => Ok(command),
         Err(unread) => Err(blamed(verb, unread)),
     }
+}
+
+// The command that a line is the written form of.
+pub fn parse(heap: Global, line: &str) -> Result<Command, Fault>
+    ensures { λ r. ⌜ Parses (now (line .entry)) r ⌝ }
+{
+    read_line(heap, line)
 }

@@ -1,6 +1,6 @@
 use Rattle.script.proofs.Forms.{all-one-word}
 use Rattle.script.proofs.Lines.{no-verb-first, line-of, usage}
-use Rattle.script.proofs.reading.parse.Needs as need
+use Rattle.script.proofs.reading.read_line.Needs as need
 
 pub alone-requires : need.alone-requires
 alone-requires c κs = all-one-word (c .args .line .now) (c .split-once .result) (c .split-once .ensures .cases) (c .in-rest .is)
