@@ -1,4 +1,6 @@
 //! A cap: a layer over any clearing, with a cap and a count of its own for each participant.
+#![tactic(auto)]
+
 ghost use Rattle.std.specs.Prelude.{◌≡◌, cond};
 ghost use Rattle.std.specs.Borrow.{sem, follows};
 ghost use Rattle.clearing.specs.Book.{Book, can_reserve, reserved, to_held, can_release, released, to_free, empty, total, settable, limited};

@@ -1,4 +1,6 @@
 //! Cover in clearing lots for participants 0 to 63.
+#![tactic(auto)]
+
 mod cover;
 mod line;
 mod pots;

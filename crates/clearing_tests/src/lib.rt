@@ -1,4 +1,6 @@
 //! Tests of the clearings and of the sharing rules, by figures worked out by hand.
+#![tactic(auto)]
+
 #[cfg(test)]
 mod cap_layers;
 #[cfg(test)]

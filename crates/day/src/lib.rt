@@ -1,4 +1,6 @@
 //! Open and closed days of the deposit market. The law of every list of calls stands on their calls.
+#![tactic(auto)]
+
 mod closed_day;
 mod open_day;
 

@@ -1,4 +1,6 @@
 //! Runs a day script from standard input; with `--echo`, each line is written above its answer.
+#![tactic(auto)]
+
 use reader::ScriptReader;
 use std::io::{Read, Write};
 use std::{env, io};

@@ -1,4 +1,6 @@
 //! The desk of a day: its state, and its calls by their definitions.
+#![tactic(auto)]
+
 mod activation;
 mod clocking;
 mod closing;

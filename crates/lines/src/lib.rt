@@ -1,4 +1,6 @@
 //! The line that is being read.
+#![tactic(auto)]
+
 ghost use Rattle.std.specs.Prelude.{◌≡◌, ◌≤◌, [], IfOk, vec_len, vec_capacity};
 ghost use Rattle.lines.specs.Kept.{with_byte};
 

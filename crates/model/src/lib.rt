@@ -1,4 +1,6 @@
 //! The definitions of a whole day, and their laws.
+#![tactic(auto)]
+
 mod state;
 mod theorems;
 

@@ -1,4 +1,6 @@
 //! Orders of a deposit market: their terms, their checks, and which of them may meet.
+#![tactic(auto)]
+
 mod admissibility;
 mod checks;
 mod kinds;

@@ -1,4 +1,6 @@
 //! Tests of the crate `orders`.
+#![tactic(auto)]
+
 #[cfg(test)]
 mod checks;
 #[cfg(test)]

@@ -1,4 +1,6 @@
 //! Reads a script's bytes, and says what is written for them.
+#![tactic(auto)]
+
 ghost use Rattle.std.specs.Prelude.{◌≡◌, ℕ, ◌<◌, List, ◌++◌, length, take, IfOk, MatchResult, OnOk};
 ghost use Rattle.reader.specs.Standings.{standing};
 ghost use Rattle.reader.specs.Transcript.{Ends, Fed, Finished, PiecesJoin, Stopped, Takes, opening, output_line, written_back, written_of};

@@ -1,4 +1,6 @@
 //! Runs a script of bad lines and of lines at a border, then many clearings and shares, and writes each line above its answer.
+#![tactic(auto)]
+
 use reader::ScriptReader;
 use std::io;
 use std::io::{Read, Write};

@@ -1,4 +1,6 @@
 //! A script's run: each line is read, obeyed and answered.
+#![tactic(auto)]
+
 mod asked_shares;
 mod obeying;
 mod order_need;

@@ -1,4 +1,6 @@
 // Sharing rules: how lots are divided among the resting orders at one rate.
+#![tactic(auto)]
+
 mod chosen;
 mod missing;
 mod parity_level;
