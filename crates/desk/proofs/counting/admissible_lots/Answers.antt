@@ -11,8 +11,8 @@ loop-order-init c = search rules
 pub offered-total-requires : goal.offered-total-requires
 offered-total-requires c = lots_few c.args.orders.now c.requires c.loop-order.order-index c.loop-order-test.true
 
-pub overflow-add-total : goal.overflow-add-total
-overflow-add-total c =
+pub overflow_add-total : goal.overflow_add-total
+overflow_add-total c =
     let more = admissible_more c.args.newcomer.now c.args.orders.now c.loop-order.order-index c.loop-order-test.true in
     let few = admissible_few c.args.newcomer.now c.args.orders.now (c.loop-order.order-index + 1) c.requires in
     omega arith

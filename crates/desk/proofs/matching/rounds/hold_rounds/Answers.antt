@@ -23,8 +23,8 @@ hold_round-round-requires g c =
       places = underway_places c.loop-left.invariant;
     }
 
-pub overflow-sub-left : goal.overflow-sub-left
-overflow-sub-left g c = lots_within _ _ _ _ _ c.hold_round-round.ensures.lots
+pub overflow_sub-left : goal.overflow_sub-left
+overflow_sub-left g c = lots_within _ _ _ _ _ c.hold_round-round.ensures.lots
 
 pub loop-left-smaller : goal.loop-left-smaller
 loop-left-smaller g c =

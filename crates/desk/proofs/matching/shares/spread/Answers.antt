@@ -2,8 +2,8 @@ use Rattle.std.proofs.Common.{◌<◌, length, arith, rules}
 use Rattle.desk.proofs.Spreading.{spread_fits, spread_more, spread_all}
 use Rattle.desk.proofs.matching.shares.spread.Goals as goal
 
-pub overflow-add-by_place : goal.overflow-add-by_place
-overflow-add-by_place c =
+pub overflow_add-by_place : goal.overflow_add-by_place
+overflow_add-by_place c =
     let there : c.loop-i.i < length c.args.shares.now = omega arith in
     let fits =
     spread_fits c.args.places.now c.args.shares.now c.loop-i.i c.loop-i.by_place c.loop-i-test.true there c.loop-i.invariant c.requires.fits in
