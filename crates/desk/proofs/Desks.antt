@@ -60,9 +60,11 @@ found_sound s n o sound is = by (unnumbered (day_of s).orders n) refl
         subst (λ (x : Order). x.withdrawn ≤ x.terms.sum) same (omega (arith, (sound.lawful.market.orders (pred n) inside).whole))
 
 -- what a desk keeps of its state
-abbrev pub Keeps : DayState → Type 0
-Keeps s = (s.count ≤ 128) × ((length (day_of s).orders ≡ s.count) × (∥ LawfulDay (day_of s) ∥₁ × Unit {0}))
+pub record Keeps (s : DayState) : Type 0 where
+  pub few : s.count ≤ 128
+  pub long : length (day_of s).orders ≡ s.count
+  pub lawful : ∥ LawfulDay (day_of s) ∥₁
 
 -- it is kept by a call that leaves the day of an outcome which is lawful
 pub keeps : (s : DayState) → s.count ≤ 128 → length (day_of s).orders ≡ s.count → (d : Day) → LawfulDay d → d ≡ day_of s → Keeps s
-keeps s few long d lawful is = (few, (long, (∣ subst LawfulDay is lawful ∣₁, tt)))
+keeps s few long d lawful is = record { few = few; long = long; lawful = ∣ subst LawfulDay is lawful ∣₁ }

@@ -22,14 +22,14 @@ activate_each-lots-requires g c =
       kept = record { long = c.requires.kept.long; orders = c.requires.kept.orders };
       sound = record { few = c.requires.sound.few; long = c.requires.sound.long; lawful = record { market = day.market; waits = day.waits; within = day.within } };
       few = c.requires.few;
-      ready = clock_ready c.args.time (world_of c.args.state.now c.args.register.now cover) c.args.places.now day (sym (c.in-default.ensures c.args.register.now cover refl)) c.requires.due;
+      ready = clock_ready c.args.time (world_of c.args.state.now c.args.register.now cover) c.args.places.now day (sym (c.in_default.ensures c.args.register.now cover refl)) c.requires.due;
     }
 
 pub returns : goal.returns
 returns g c =
     let w = world_of c.args.state.now c.args.register.now (g.C.Clearing.book c.args.clearing.now) in
     let rule = g.R.SharingRule.shares c.args.rule.now in
-    let passed = sym (c.in-default.ensures c.args.register.now (g.C.Clearing.book c.args.clearing.now) refl) in
+    let passed = sym (c.in_default.ensures c.args.register.now (g.C.Clearing.book c.args.clearing.now) refl) in
     record {
       outcome = clock_accepted rule c.args.time w c.args.places.now c.activate_each-lots.result _ passed c.requires.due c.activate_each-lots.ensures.lots c.activate_each-lots.ensures.world;
       inside = inside_accepted rule c.args.time w (g.C.Clearing.makeup c.args.clearing.now) _ c.args.places.now passed c.requires.due c.activate_each-lots.ensures.inside;

@@ -18,10 +18,10 @@ returns g c = record {
   outcome = λ register.
       withdraw_accepted c.args.number c.args.participant (world_of c.args.state.now register (g.C.Clearing.book c.args.clearing.now))
       c.take_out-lots.result (day_of c.take_out-lots.new.state) (g.C.Clearing.book c.take_out-lots.new.clearing)
-      (sym c.in-default.ensures) c.take_out-lots.ensures.answer c.take_out-lots.ensures.day c.take_out-lots.ensures.cover;
+      (sym c.in_default.ensures) c.take_out-lots.ensures.answer c.take_out-lots.ensures.day c.take_out-lots.ensures.cover;
   inside =
       inside_accepted c.args.number c.args.participant (day_of c.args.state.now) (g.C.Clearing.makeup c.args.clearing.now) (g.C.Clearing.makeup c.take_out-lots.new.clearing)
-      (sym c.in-default.ensures) c.take_out-lots.ensures.inside;
+      (sym c.in_default.ensures) c.take_out-lots.ensures.inside;
   kept = c.take_out-lots.ensures.kept;
   count = c.take_out-lots.ensures.count;
 }

@@ -9,11 +9,11 @@ loop-byte-init c = fed_none (standing c.args.self.now) c.args.bytes.now (vec_ite
 
 pub loop-byte-preserved : goal.loop-byte-preserved
 loop-byte-preserved c =
-    fed_more (standing c.args.self.now) c.args.bytes.now (vec_items c.args.out.now) c.loop-byte.byte-index (vec_items c.loop-byte.out) (standing c.loop-byte.self) (vec_items c.take.new.out) (standing c.take.new.self) c.loop-byte-test.true c.loop-byte.invariant c.in-ok-take.ensures
+    fed_more (standing c.args.self.now) c.args.bytes.now (vec_items c.args.out.now) c.loop-byte.byte-index (vec_items c.loop-byte.out) (standing c.loop-byte.self) (vec_items c.take.new.out) (standing c.take.new.self) c.loop-byte-test.true c.loop-byte.invariant c.in_ok-take.ensures
 
-pub returns-in-err-take : goal.returns-in-err-take
-returns-in-err-take c =
-    MatchResult-from_err c.from-residual.result _ _ c.from-residual.ensures.0 (λ _. stopped_at (standing c.args.self.now) c.args.bytes.now (vec_items c.args.out.now) c.loop-byte.byte-index (vec_items c.loop-byte.out) (standing c.loop-byte.self) (vec_items c.take.new.out) c.loop-byte-test.true c.loop-byte.invariant c.in-err-take.ensures)
+pub returns-in_err-take : goal.returns-in_err-take
+returns-in_err-take c =
+    MatchResult-from_err c.from_residual.result _ _ c.from_residual.ensures.0 (λ _. stopped_at (standing c.args.self.now) c.args.bytes.now (vec_items c.args.out.now) c.loop-byte.byte-index (vec_items c.loop-byte.out) (standing c.loop-byte.self) (vec_items c.take.new.out) c.loop-byte-test.true c.loop-byte.invariant c.in_err-take.ensures)
 
 pub returns : goal.returns
 returns c =

@@ -4,7 +4,7 @@ use Rattle.script.specs.declared.command.Verb.TheVariants.{Reserve}
 use Rattle.script.proofs.Lines.{unread_line}
 use Rattle.script.proofs.reading.reserve.Goals as goal
 
-pub returns-in-err-read : goal.returns-in-err-read
-returns-in-err-read c =
-    let p = err_from_is_err_and c.from-residual.result c.from-residual.ensures.1 in
-    rw (p.1, p.2) (unread_line false Reserve c.args.text.now _ c.in-err-read.ensures)
+pub returns-in_err-read : goal.returns-in_err-read
+returns-in_err-read c =
+    let p = err_from_is_err_and c.from_residual.result c.from_residual.ensures.1 in
+    rw (p.1, p.2) (unread_line false Reserve c.args.text.now _ c.in_err-read.ensures)

@@ -12,8 +12,8 @@ use Rattle.model.proofs.Handed.{clocking_length}
 use Rattle.day.proofs.Elsewhere.{extends_over, over}
 use Rattle.day.proofs.open_day.OpenDay.clock.Goals as goal
 
-pub invariant-of-self : goal.invariant-of-self
-invariant-of-self g c = (
+pub invariant_of-self : goal.invariant_of-self
+invariant_of-self g c = (
   subst Reached (ap (λ (o : Outcome). o.world.day) c.clock.ensures.outcome)
       (reached_clocking (g.R.SharingRule.shares c.args.rule.now) (g.met.R.SharingRule.divides c.args.rule.now) c.args.time (world_of c.args.self.now.desk.state c.args.register.now (g.C.Clearing.book c.args.clearing.now)) c.args.self.now.reached),
   tt,

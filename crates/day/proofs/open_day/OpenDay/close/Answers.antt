@@ -8,8 +8,8 @@ use Rattle.model.specs.Reach.{ReachedClosed}
 use Rattle.model.specs.Runs.{Closes}
 use Rattle.day.proofs.open_day.OpenDay.close.Goals as goal
 
-pub invariant-of-result : goal.invariant-of-result
-invariant-of-result g c = (
+pub invariant_of-result : goal.invariant_of-result
+invariant_of-result g c = (
   subst ReachedClosed (ap (λ (w : World). w.day) (c.close.ensures.world []))
       (reached_closing (world_of c.args.self.desk.state [] (g.C.Clearing.book c.args.clearing.now)) c.args.self.reached),
   tt,

@@ -3,5 +3,5 @@ use Rattle.model.proofs.Reached.{reached_opened}
 use Rattle.model.specs.Reach.{Reached}
 use Rattle.day.proofs.open_day.OpenDay.open.Goals as goal
 
-pub invariant-of-result : goal.invariant-of-result
-invariant-of-result c = (subst Reached (sym c.open-desk.ensures) (reached_opened c.args.settings), tt)
+pub invariant_of-result : goal.invariant_of-result
+invariant_of-result c = (subst Reached (sym c.open-desk.ensures) (reached_opened c.args.settings), tt)

@@ -12,8 +12,8 @@ use Rattle.model.proofs.Handed.{placing_length}
 use Rattle.day.proofs.Elsewhere.{extends_over, over}
 use Rattle.day.proofs.open_day.OpenDay.place.Goals as goal
 
-pub invariant-of-self : goal.invariant-of-self
-invariant-of-self g c = (
+pub invariant_of-self : goal.invariant_of-self
+invariant_of-self g c = (
   subst Reached (ap (λ (o : Outcome). o.world.day) c.place.ensures.outcome)
       (reached_placing (g.R.SharingRule.shares c.args.rule.now) (g.met.R.SharingRule.divides c.args.rule.now) c.args.participant c.args.terms.now (world_of c.args.self.now.desk.state c.args.register.now (g.C.Clearing.book c.args.clearing.now)) c.args.self.now.reached),
   tt,

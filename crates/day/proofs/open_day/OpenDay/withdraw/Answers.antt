@@ -9,8 +9,8 @@ use Rattle.model.specs.Reach.{Reached}
 use Rattle.model.specs.Runs.{Extends}
 use Rattle.day.proofs.open_day.OpenDay.withdraw.Goals as goal
 
-pub invariant-of-self : goal.invariant-of-self
-invariant-of-self g c = (
+pub invariant_of-self : goal.invariant_of-self
+invariant_of-self g c = (
   subst Reached (ap (λ (o : Outcome). o.world.day) (c.withdraw.ensures.outcome []))
       (reached_withdrawing c.args.number c.args.participant (world_of c.args.self.now.desk.state [] (g.C.Clearing.book c.args.clearing.now)) c.args.self.now.reached),
   tt,

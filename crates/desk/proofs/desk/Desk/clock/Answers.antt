@@ -11,10 +11,12 @@ use Rattle.desk.proofs.desk.Desk.clock.Goals as goal
 pub clock_orders-requires : goal.clock_orders-requires
 clock_orders-requires g c = sound_of c.args.self.now.state c.args.self.now.few c.args.self.now.long c.args.self.now.lawful
 
-pub invariant-of-self : goal.invariant-of-self
-invariant-of-self g c =
+pub invariant_of-self : goal.invariant_of-self
+invariant_of-self g c =
     let w : World = world_of c.args.self.now.state c.args.register.now (g.C.Clearing.book c.args.clearing.now) in
+    let kept =
     keeps c.clock_orders.new.state (omega (arith, c.clock_orders.ensures.count, c.args.self.now.few)) c.clock_orders.ensures.long
     (clocking (g.R.SharingRule.shares c.args.rule.now) c.args.time w).world.day
     (clocking_lawful (g.R.SharingRule.shares c.args.rule.now) (g.met.R.SharingRule.divides c.args.rule.now) c.args.time w (lawful_out (day_of c.args.self.now.state) c.args.self.now.lawful))
-    (ap (λ (o : Outcome). o.world.day) c.clock_orders.ensures.outcome)
+    (ap (λ (o : Outcome). o.world.day) c.clock_orders.ensures.outcome) in
+    record { few = kept.few; long = kept.long; lawful = kept.lawful }

@@ -1,7 +1,7 @@
 use Rattle.std.proofs.Common.{sym}
 use Rattle.desk.proofs.Collecting.{collects_none, collects_room, collects_yes, collects_no, collects_all}
 use Rattle.desk.proofs.matching.front.collect.Goals as goal
-use Rattle.desk.proofs.matching.front.collect.Goals.{then-at-rate, else-at-rate}
+use Rattle.desk.proofs.matching.front.collect.Goals.{then-at_rate, else-at_rate}
 
 pub loop-place-init : goal.loop-place-init
 loop-place-init c = collects_none c.requires.room c.requires.long
@@ -15,10 +15,10 @@ bounds-sums-count c = (collects_room c.loop-place.invariant c.loop-place-test.tr
 pub loop-place-preserved : goal.loop-place-preserved
 loop-place-preserved c =
     elim c.if-at_rate.branch [
-      | then-at-rate w ↦
+      | then-at_rate w ↦
           rw (w.places-is, w.sums-is, w.count-is)
           (collects_yes c.loop-place.invariant c.loop-place-test.true (sym w.if-at_rate.ensures))
-      | else-at-rate w ↦
+      | else-at_rate w ↦
           rw (w.places-is, w.sums-is, w.count-is)
           (collects_no c.loop-place.invariant c.loop-place-test.true (sym w.if-at_rate.ensures))
     ]

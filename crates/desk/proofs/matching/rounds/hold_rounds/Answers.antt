@@ -9,8 +9,8 @@ loop-left-init g c = underway_first c.requires
 pub best_rate-requires : goal.best_rate-requires
 best_rate-requires g c = underway_places c.loop-left.invariant
 
-pub returns-in-default : goal.returns-in-default
-returns-in-default g c = let all = underway_alone c.loop-left.invariant c.in-default.ensures in record { left = all.0; market = all.1; within = underway_within c.loop-left.invariant }
+pub returns-in_default : goal.returns-in_default
+returns-in_default g c = let all = underway_alone c.loop-left.invariant c.in_default.ensures in record { left = all.0; market = all.1; within = underway_within c.loop-left.invariant }
 
 pub hold_round-round-requires : goal.hold_round-round-requires
 hold_round-round-requires g c =

@@ -2,8 +2,8 @@ use Rattle.std.proofs.Common.{rules}
 use Rattle.desk.proofs.RowPlaces.{grown_fits, added_there, new_room, added_new}
 use Rattle.desk.proofs.matching.rows.add_row.Goals as goal
 
-pub overflow_add_rows : goal.overflow_add_rows
-overflow_add_rows c = let fits = grown_fits c.args.row c.args.rows.now c.args.made c.requires.inside c.find_pair-at.result c.find_pair-at.ensures c.if-at-made.true c.requires.fits in search rules
+pub overflow_add-rows : goal.overflow_add-rows
+overflow_add-rows c = let fits = grown_fits c.args.row c.args.rows.now c.args.made c.requires.inside c.find_pair-at.result c.find_pair-at.ensures c.if-at-made.true c.requires.fits in search rules
 
 pub returns-then-at-made : goal.returns-then-at-made
 returns-then-at-made c = added_there c.args.row c.args.rows.now c.args.made c.requires.inside c.find_pair-at.result c.find_pair-at.ensures c.if-at-made.true

@@ -4,17 +4,17 @@ use Rattle.script.proofs.form.ThenMoreWritten.read.Goals as goal
 
 pub returns-in-None : goal.returns-in-None
 returns-in-None g c =
-    more_single g.A.Word.fits g.A.Word.form g.B.Written.fits g.B.Written.form g.met.A.Word.plain c.args.text.now c.split_once.result c.split_once.ensures.cases c.in-default.is c.in-None.ensures
+    more_single g.A.Word.fits g.A.Word.form g.B.Written.fits g.B.Written.form g.met.A.Word.plain c.args.text.now c.split_once.result c.split_once.ensures.cases c.in_default.is c.in-None.ensures
 
-pub returns-in-default-read : goal.returns-in-default-read
-returns-in-default-read g c =
-    more_first g.A.Word.fits g.A.Word.form g.B.Written.fits g.B.Written.form g.met.A.Word.plain c.args.text.now c.split_once.result c.in-Some.word c.in-Some.after c.split_once.ensures.cases c.in-Some.is c.in-default-read.ensures
+pub returns-in_default-read : goal.returns-in_default-read
+returns-in_default-read g c =
+    more_first g.A.Word.fits g.A.Word.form g.B.Written.fits g.B.Written.form g.met.A.Word.plain c.args.text.now c.split_once.result c.in-Some.word c.in-Some.after c.split_once.ensures.cases c.in-Some.is c.in_default-read.ensures
 
-pub returns-in-err-more : goal.returns-in-err-more
-returns-in-err-more g c =
-    let p = err_from_is_err_and c.from-residual.result c.from-residual.ensures.1 in
-    rw (p.1, p.2) (more_rest g.A.Word.fits g.A.Word.form g.B.Written.fits g.B.Written.form g.met.A.Word.plain g.B.Written.allocates c.args.text.now c.split_once.result c.in-Some.word c.in-Some.after _ c.split_once.ensures.cases c.in-Some.is c.in-err-more.ensures)
+pub returns-in_err-more : goal.returns-in_err-more
+returns-in_err-more g c =
+    let p = err_from_is_err_and c.from_residual.result c.from_residual.ensures.1 in
+    rw (p.1, p.2) (more_rest g.A.Word.fits g.A.Word.form g.B.Written.fits g.B.Written.form g.met.A.Word.plain g.B.Written.allocates c.args.text.now c.split_once.result c.in-Some.word c.in-Some.after _ c.split_once.ensures.cases c.in-Some.is c.in_err-more.ensures)
 
 pub returns : goal.returns
 returns g c =
-    then_both g.A.Word.fits g.A.Word.form g.B.Written.fits g.B.Written.form g.met.A.Word.plain c.args.text.now c.split_once.result c.in-Some.word c.in-Some.after _ _ c.split_once.ensures.cases c.in-Some.is c.in-Some-read-2.ensures c.in-ok-more.ensures
+    then_both g.A.Word.fits g.A.Word.form g.B.Written.fits g.B.Written.form g.met.A.Word.plain c.args.text.now c.split_once.result c.in-Some.word c.in-Some.after _ _ c.split_once.ensures.cases c.in-Some.is c.in-Some-read-2.ensures c.in_ok-more.ensures
