@@ -1,6 +1,6 @@
 -- Calls that are handed a register of another length than the settings say.
 use mathlib.Core.List.{List}
-use mathlib.Core.Path.{◌≡◌, ap, sym, subst, ◌∙◌}
+use mathlib.Core.Path.{◌≡◌, ap, sym, subst}
 use Rattle.orders.specs.declared.kinds.Row.{Row}
 use Rattle.model.proofs.Handed.{refused_length}
 use Rattle.model.specs.Calls.{Call}

@@ -1,7 +1,7 @@
 -- Activations, one after another.
 use Rattle.std.proofs.Common.{◌≡◌, ℕ, suc, ◌+◌, ◌-◌, ◌*◌, ◌<◌, ◌≤◌, Bool, true, false, eqb, List, ◌∷◌, length, get_or, take, drop, count_by, sym, refl, ap, ◌∙◌, subst, mul-le-mul_left, arith}
 use native.Mathlib.Nat.{sub-zero}
-use Rattle.std.specs.List.{AllByRecursion as All}
+use Rattle.std.specs.List.{AllByRecursion}
 use Rattle.std.proofs.lemmas.List.{drop_more, at_drop_more, at_drop_all}
 use Rattle.std.proofs.lemmas.Bool.Decides.{nat_tests}
 use Rattle.clearing.specs.Book.{Book, released}
@@ -121,7 +121,7 @@ enter_next rule lawful k ks w after day ready is long =
     subst (λ (a : World). a.day.used ≤ w.day.used + opposite Deposit w.day.orders) (sym is) left.used in (
       subst (λ (a : World). LawfulDay a.day) (sym is) left.day,
       record {
-        waiting = subst (λ (a : World). All (AtRest a.day.orders) ks) (sym is)
+        waiting = subst (λ (a : World). AllByRecursion (AtRest a.day.orders) ks) (sym is)
             (rest_waits k ks w.day.orders (activated rule k w).world.day.orders left.beside absent ready.waiting.1);
         once = λ j. omega (arith, count_cons j k ks, ready.once j);
         rows = long ∙ ready.rows ∙ sym (ap (λ (a : World). a.day.settings.rows) is ∙ ap (λ (s : Settings). s.rows) left.settings);

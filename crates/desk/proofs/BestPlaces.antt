@@ -1,6 +1,6 @@
 -- The orders at the best rate, in a sound market.
 use Rattle.std.proofs.Common.{◌≡◌, ℕ, ◌*◌, ◌<◌, ◌≤◌, Bool, true, false, cond, ◌&&◌, eqb, ◌⊎◌, List, [], ◌∷◌, length, Some, None, count_by, filter, refl, ap, ◌∙◌, inl, inr, mul-le-mul_right, arith}
-use Rattle.std.specs.List.{AllByRecursion as All}
+use Rattle.std.specs.List.{AllByRecursion}
 use Rattle.std.proofs.ByRecursion.{All-get_or, all_kept_by}
 use Rattle.std.proofs.lemmas.Bool.{cases_lt}
 use Rattle.std.proofs.lemmas.Bool.Decides.{nat_tests}
@@ -15,7 +15,7 @@ use Rattle.model.specs.Sound.{SoundMarket}
 use Rattle.desk.specs.Matching.{Fit, PlacesOf, best_of, market_of, places_at}
 
 -- each place of the queue is that of an order
-all_queued : (m : Market) → SoundMarket m → All (λ k. k < length m.orders) m.queue
+all_queued : (m : Market) → SoundMarket m → AllByRecursion (λ k. k < length m.orders) m.queue
 all_queued m sound = all_from_counted (λ k. k < length m.orders) m.queue (λ k some. by_place k some (cases_lt k (length m.orders)))
   where
     by_place : (k : ℕ) → 1 ≤ count_by (eqb k) m.queue → (k < length m.orders) ⊎ (length m.orders ≤ k) → k < length m.orders

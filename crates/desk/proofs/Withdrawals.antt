@@ -6,7 +6,6 @@ use Rattle.orders.specs.Answers.{accepted, refused_for}
 use Rattle.orders.specs.Table.{Table, first}
 use Rattle.orders.specs.declared.lifecycle.Event.TheVariants.{Withdrawal}
 use Rattle.orders.specs.declared.refusals.Refusal.{Refusal}
-use Rattle.orders.specs.declared.refusals.Refusal.TheVariants as refused
 use Rattle.model.specs.Days.{Day, World, Outcome, judged}
 use Rattle.model.specs.Market.{order_at, lots_of}
 use Rattle.model.specs.Withdraw.{withdraw_table, taken_out, with_order_at, withdrawn, withdrawing}

@@ -7,7 +7,6 @@ use Rattle.orders.specs.declared.kinds.Direction.TheVariants.{Deposit}
 use Rattle.orders.specs.declared.kinds.Order.{Order}
 use Rattle.orders.specs.declared.kinds.Row.{Row}
 use Rattle.orders.specs.declared.kinds.State.TheVariants.{Done, Waiting, Active}
-use Rattle.orders.specs.declared.lifecycle.Event.TheVariants.{Activation}
 use Rattle.orders.specs.declared.settings.Settings.{Settings}
 use Rattle.model.specs.Calls.{LawfulRule}
 use Rattle.model.specs.Choices.{taken, concluded_with}
@@ -15,7 +14,7 @@ use Rattle.model.specs.Clock.{Activated, entered_late, activated_failing, activa
 use Rattle.model.specs.ClockLaw as laws
 use Rattle.model.specs.Days.{World}
 use Rattle.model.specs.Ledger.{made, named_lots}
-use Rattle.model.specs.Market.{none, order_at, lots_of}
+use Rattle.model.specs.Market.{order_at, lots_of}
 use Rattle.model.specs.Place.{opposite, volume_fails, market_of}
 use Rattle.model.specs.Rounds.{Rule, Meeting}
 use Rattle.model.specs.WithdrawLaw.{Ended, Releases}

@@ -1,6 +1,6 @@
--- All rounds of an order that enters: what they reach, and that they end.
+-- AllByRecursion rounds of an order that enters: what they reach, and that they end.
 use Rattle.std.proofs.Common.{◌≡◌, ℕ, zero, suc, ◌+◌, ◌-◌, ◌<◌, ◌≤◌, Bool, true, false, cond, not, ◌&&◌, eqb, List, [], ◌∷◌, ◌++◌, length, count_by, filter, sym, refl, ap, ◌∙◌, subst, inl, inr, le_trans, arith}
-use Rattle.std.specs.List.{AllByRecursion as All}
+use Rattle.std.specs.List.{AllByRecursion}
 use Rattle.std.proofs.lemmas.List.Elements.{filter-append}
 use Rattle.std.proofs.ByRecursion.{All-append, all_kept_by, All-weaker, kept_by_passes}
 use Rattle.std.proofs.lemmas.List.{append-nil, append_assoc}
@@ -55,7 +55,7 @@ pub record Reached (e : Terms) (n : ℕ) (m : Market) (left : ℕ) (now : Market
   pub orders : (k : ℕ) → Touched (lots_with e n now k) (order_at m.orders k) (order_at now.orders k)
   pub hidden : (k : ℕ) → (order_at now.orders k).hidden ≤ (order_at m.orders k).hidden
   pub queue : Queued m now
-  pub rows : All (NewRow e n m.orders) now.rows
+  pub rows : AllByRecursion (NewRow e n m.orders) now.rows
   pub single : OneRowEach now.rows
   pub whole : left + total (length m.orders) (lots_with e n now) ≡ e.sum
   -- better rates than the bar are used up, worse ones are not touched
@@ -106,7 +106,7 @@ reached_first e n m sound fresh =
       orders = λ k. subst (λ (c : ℕ). Touched c (order_at m.orders k) (order_at m.orders k)) (sym (nothing k)) (untouched (order_at m.orders k));
       hidden = λ k. omega arith;
       queue = queued_same m;
-      rows = subst (All (NewRow e n m.orders)) (sym fresh) tt;
+      rows = subst (AllByRecursion (NewRow e n m.orders)) (sym fresh) tt;
       single = subst OneRowEach (sym fresh) single_none;
       whole = omega (arith, total_zero (length m.orders) (lots_with e n m) (λ k _. nothing k));
       bar = first.0;

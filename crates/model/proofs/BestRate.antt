@@ -1,6 +1,6 @@
 -- The best rate of some places: one of them has it, and none has a better one.
 use Rattle.std.proofs.Common.{◌≡◌, ℕ, ◌≤◌, eqb, ◌⊎◌, List, [], ◌∷◌, map, count_by, sym, refl, ◌∙◌, inl, inr, le_trans, arith}
-use Rattle.std.specs.List.{AllByRecursion as All}
+use Rattle.std.specs.List.{AllByRecursion}
 use Rattle.std.proofs.lemmas.Bool.{cases_lt}
 use Rattle.orders.specs.declared.kinds.Direction.{Direction}
 use Rattle.orders.specs.declared.kinds.Direction.TheVariants.{Deposit, Repo}
@@ -27,7 +27,7 @@ better_one Deposit a b = elim (cases_lt a b) [ inl lt ↦ inr (omega arith) | in
 better_one Repo a b = elim (cases_lt a b) [ inl lt ↦ inl (omega arith) | inr le ↦ inr (omega arith) ]
 
 -- no place has a rate better than one that the best is no better than
-pub best_top : {X : Type 0} (d : Direction) (r : X → ℕ) (ks : List X) (b : ℕ) → NoBetter d (best d (map r ks)) b → All (λ k. NoBetter d (r k) b) ks
+pub best_top : {X : Type 0} (d : Direction) (r : X → ℕ) (ks : List X) (b : ℕ) → NoBetter d (best d (map r ks)) b → AllByRecursion (λ k. NoBetter d (r k) b) ks
 unfolding best
 best_top d r [] b top = tt
 best_top d r (k ∷ []) b top = (top, tt)

@@ -1,6 +1,6 @@
 -- Clock: the due orders enter, each in the day that the earlier ones left.
 use Rattle.std.proofs.Common.{◌≡◌, ℕ, suc, ◌+◌, ◌-◌, ◌*◌, ◌<◌, ◌≤◌, false, cond, eqb, List, [], ◌∷◌, ◌++◌, length, count_by, sym, refl, ap, ◌∙◌, subst, inl, inr, mul-le-mul_left, arith}
-use Rattle.std.specs.List.{AllByRecursion as All}
+use Rattle.std.specs.List.{AllByRecursion}
 use Rattle.std.proofs.lemmas.List.{append-nil, append_assoc, get_or_past}
 use Rattle.std.proofs.lemmas.Bool.{cases_Bool, cases_eq, cases_lt}
 use Rattle.std.proofs.lemmas.Bool.Decides.{nat_tests, not_from_Decides}
@@ -70,7 +70,7 @@ module _ (s : Settings) (start : World) (k : ℕ) (ks : List ℕ) (w : World) (a
 
 went : (rule : Rule) → LawfulRule rule → (s : Settings) (start : World) (ks : List ℕ) (w : World) → SoundDay s start w
     → length w.register ≡ s.rows → w.day.used + length ks * opposite Deposit w.day.orders ≤ length w.register
-    → All (AtRest w.day.orders) ks → ((j : ℕ) → count_by (eqb j) ks ≤ 1) → Went s start ks w (activations rule ks w)
+    → AllByRecursion (AtRest w.day.orders) ks → ((j : ℕ) → count_by (eqb j) ks ≤ 1) → Went s start ks w (activations rule ks w)
 unfolding activations
 went rule lawful s start [] w sound rows room waits once = record {
   law = (refl, refl);

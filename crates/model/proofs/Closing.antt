@@ -1,6 +1,6 @@
 -- Close, and the final statement.
 use Rattle.std.proofs.Common.{◌≡◌, ℕ, suc, ◌+◌, ◌-◌, ◌<◌, ◌≤◌, cond, eqb, List, [], ◌∷◌, length, get_or, sym, refl, ap, ◌∙◌, subst, arith}
-use Rattle.std.specs.List.{AllByRecursion as All}
+use Rattle.std.specs.List.{AllByRecursion}
 use Rattle.std.proofs.ByRecursion.{All-from_get_or}
 use Rattle.std.proofs.lemmas.List.{get_or-map, length-map}
 use Rattle.std.proofs.lemmas.List.Sums.{sum_by-cons}
@@ -31,7 +31,7 @@ record ReleasesAll (orders : List Order) (before after : Book) : Type 0 where
 owned_more : (p : ℕ) (o : Order) (os : List Order) → owned lots_of p (o ∷ os) ≡ cond (eqb o.owner p) (lots_of o) 0 + owned lots_of p os
 owned_more p o os = sum_by-cons (λ (x : Order). cond (eqb x.owner p) (lots_of x) 0) o os
 
-released_all_lem : (b : Book) (orders : List Order) → All (λ o. o.owner ≤ 63) orders → ((p : ℕ) → owned lots_of p orders ≤ b.held p) → ReleasesAll orders b (released_all b orders)
+released_all_lem : (b : Book) (orders : List Order) → AllByRecursion (λ o. o.owner ≤ 63) orders → ((p : ℕ) → owned lots_of p orders ≤ b.held p) → ReleasesAll orders b (released_all b orders)
 unfolding released_all
 released_all_lem b [] known enough = record { kept = λ p. refl; held = λ p. omega arith }
 released_all_lem b (o ∷ os) known enough =

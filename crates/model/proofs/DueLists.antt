@@ -1,6 +1,6 @@
 -- The due list has exactly the due orders, by activation and then by number.
 use Rattle.std.proofs.Common.{◌≡◌, ℕ, zero, suc, ◌+◌, ◌<◌, ◌≤◌, true, cond, eqb, leb, ◌⊎◌, List, [], ◌∷◌, length, get_or, Decides, count_by, sym, refl, ap, ◌∙◌, subst, inl, inr, arith}
-use Rattle.std.specs.List.{AllByRecursion as All}
+use Rattle.std.specs.List.{AllByRecursion}
 use Rattle.std.proofs.ByRecursion.{All-get_or, All-weaker}
 use Rattle.std.proofs.lemmas.List.Sums.{sum_by-cons}
 use Rattle.std.proofs.lemmas.Bool.{true≢false, cases_lt, cond-true, cond_both, leb-true, leb-false, le-leb}
@@ -22,11 +22,11 @@ decides_due time o = Decides-and _ _ (waits o.state) (leb-true _ _, le-leb _ _)
     waits Active = (λ on. absurd (true≢false (sym on)), λ is. cc)
 
 -- what holds of a place and of a list holds of the list with the place put into it
-put_all : (P : ℕ → Type 0) (orders : List Order) (k : ℕ) (js : List ℕ) → P k → All P js → All P (put_due orders k js)
+put_all : (P : ℕ → Type 0) (orders : List Order) (k : ℕ) (js : List ℕ) → P k → AllByRecursion P js → AllByRecursion P (put_due orders k js)
 unfolding put_due
 put_all P orders k [] pk all = (pk, all)
 put_all P orders k (j ∷ js) pk (pj, all) =
-    cond_both (leb (activation_at orders k) (activation_at orders j)) (k ∷ j ∷ js) (j ∷ put_due orders k js) (All P)
+    cond_both (leb (activation_at orders k) (activation_at orders j)) (k ∷ j ∷ js) (j ∷ put_due orders k js) (AllByRecursion P)
     (λ _. (pk, (pj, all))) (λ _. (pj, put_all P orders k js pk all))
 
 -- a place put into a list is there once more
@@ -45,7 +45,7 @@ put_count orders i k (j ∷ js) =
 -- each comes before all that follow
 abbrev pub Sorted : List Order → List ℕ → Type 0
 Sorted orders [] = Unit {0}
-Sorted orders (j ∷ js) = All (Sooner orders j) js × Sorted orders js
+Sorted orders (j ∷ js) = AllByRecursion (Sooner orders j) js × Sorted orders js
 
 -- no order comes before itself
 pub sooner_distinct : (orders : List Order) (j k : ℕ) → Sooner orders j k → j ≡ k → ⊥
@@ -64,13 +64,13 @@ le_sooner orders j k le below = by (cases_lt (activation_at orders j) (activatio
     by (inr more) = inr (omega arith, below)
 
 -- before the first of a sorted list of higher places, and so before all
-before_all : (orders : List Order) (k j : ℕ) (js : List ℕ) → activation_at orders k ≤ activation_at orders j → All (Sooner orders j) js → All (λ i. k < i) js
-    → All (Sooner orders k) js
+before_all : (orders : List Order) (k j : ℕ) (js : List ℕ) → activation_at orders k ≤ activation_at orders j → AllByRecursion (Sooner orders j) js → AllByRecursion (λ i. k < i) js
+    → AllByRecursion (Sooner orders k) js
 before_all orders k j [] le after above = tt
 before_all orders k j (i ∷ is) le (s, after) (lt, above) =
     (le_sooner orders k i (omega (arith, sooner_le orders j i s)) lt, before_all orders k j is le after above)
 
-put_sorted : (orders : List Order) (k : ℕ) (js : List ℕ) → All (λ j. k < j) js → Sorted orders js → Sorted orders (put_due orders k js)
+put_sorted : (orders : List Order) (k : ℕ) (js : List ℕ) → AllByRecursion (λ j. k < j) js → Sorted orders js → Sorted orders (put_due orders k js)
 unfolding put_due
 put_sorted orders k [] above sorted = (tt, tt)
 put_sorted orders k (j ∷ js) (lt, above) (after, sorted) =
@@ -93,18 +93,18 @@ from_next orders k o os f = record { ends = omega (arith, f.ends); is = λ i j e
 abbrev DueAfter : List Order → ℕ → ℕ → ℕ → Type 0
 DueAfter orders time k j = (k ≤ j) × (j < length orders) × Due time (order_at orders j)
 
-due_after : (orders : List Order) (time k : ℕ) (os : List Order) → From orders k os → All (DueAfter orders time k) (due_from orders time k os)
+due_after : (orders : List Order) (time k : ℕ) (os : List Order) → From orders k os → AllByRecursion (DueAfter orders time k) (due_from orders time k os)
 unfolding due_from
 due_after orders time k [] f = tt
 due_after orders time k (o ∷ os) f =
-    let rest : All (DueAfter orders time k) (due_from orders time (suc k) os) =
+    let rest : AllByRecursion (DueAfter orders time k) (due_from orders time (suc k) os) =
     All-weaker _ _ (λ j h. (omega (arith, h.0), h.1, h.2)) _ (due_after orders time (suc k) os (from_next orders k o os f)) in
-    cond_both (is_due time o) (put_due orders k (due_from orders time (suc k) os)) (due_from orders time (suc k) os) (All (DueAfter orders time k))
+    cond_both (is_due time o) (put_due orders k (due_from orders time (suc k) os)) (due_from orders time (suc k) os) (AllByRecursion (DueAfter orders time k))
     (λ on. put_all _ orders k _ (omega arith, omega (arith, f.ends), subst (Due time) (sym (f.is 0 k (omega arith) (omega arith))) ((decides_due time o).0 on)) rest)
     (λ _. rest)
 
 -- the due places are those of the due orders
-pub due_all : (time : ℕ) (orders : List Order) → All (λ j. (j < length orders) × Due time (order_at orders j)) (due time orders)
+pub due_all : (time : ℕ) (orders : List Order) → AllByRecursion (λ j. (j < length orders) × Due time (order_at orders j)) (due time orders)
 due_all time orders = All-weaker _ _ (λ j h. (h.1, h.2)) _ (due_after orders time 0 orders (from_start orders))
 
 sorted_from : (orders : List Order) (time k : ℕ) (os : List Order) → From orders k os → Sorted orders (due_from orders time k os)
@@ -112,7 +112,7 @@ unfolding due_from
 sorted_from orders time k [] f = tt
 sorted_from orders time k (o ∷ os) f =
     let rest : Sorted orders (due_from orders time (suc k) os) = sorted_from orders time (suc k) os (from_next orders k o os f) in
-    let above : All (λ j. k < j) (due_from orders time (suc k) os) =
+    let above : AllByRecursion (λ j. k < j) (due_from orders time (suc k) os) =
     All-weaker _ _ (λ j h. omega (arith, h.0)) _ (due_after orders time (suc k) os (from_next orders k o os f)) in
     cond_both (is_due time o) (put_due orders k (due_from orders time (suc k) os)) (due_from orders time (suc k) os) (Sorted orders)
     (λ _. put_sorted orders k _ above rest) (λ _. rest)

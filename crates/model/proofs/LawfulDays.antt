@@ -1,6 +1,6 @@
 -- Every call keeps a lawful day, over any register and any cover.
-use Rattle.std.proofs.Common.{◌≡◌, ℕ, suc, pred, ◌+◌, ◌-◌, ◌*◌, ◌<◌, ◌≤◌, Bool, true, false, cond, not, ◌&&◌, eqb, List, [], ◌∷◌, length, set, count_by, sym, refl, ap, ◌∙◌, subst, inl, inr, mul-le-mul_left, arith}
-use Rattle.std.specs.List.{AllByRecursion as All}
+use Rattle.std.proofs.Common.{◌≡◌, ℕ, suc, pred, ◌+◌, ◌*◌, ◌<◌, ◌≤◌, Bool, true, false, cond, not, ◌&&◌, eqb, List, [], ◌∷◌, length, set, count_by, sym, refl, ap, ◌∙◌, subst, inl, inr, mul-le-mul_left, arith}
+use Rattle.std.specs.List.{AllByRecursion}
 use Rattle.std.proofs.ByRecursion.{All-weaker}
 use Rattle.std.proofs.lemmas.List.{get_or-set_same, get_or-set_other, length-set, length-map}
 use Rattle.std.proofs.lemmas.Bool.{cases_lt}
@@ -20,7 +20,7 @@ use Rattle.model.specs.ClockLaw.{Due}
 use Rattle.model.specs.Close.{closing}
 use Rattle.model.specs.Days.{Day, World, opened}
 use Rattle.model.specs.Market.{Market, none, order_at, lots_of, is_active}
-use Rattle.model.specs.Place.{same_direction, registered, opposite, volume_fails, waiting, next_number, market_of, place_table, placed_waiting, placed_meeting, placed, placing}
+use Rattle.model.specs.Place.{same_direction, registered, opposite, volume_fails, next_number, market_of, place_table, placed_waiting, placed_meeting, placed, placing}
 use Rattle.model.specs.Rounds.{Rule, Meeting, meeting}
 use Rattle.model.specs.Sound.{SoundOrder, LawfulDay}
 use Rattle.model.specs.Withdraw.{withdraw_table, taken_out, with_order_at, withdrawn, withdrawing}
@@ -214,7 +214,7 @@ abbrev pub AtRest : List Order → ℕ → Type 0
 AtRest orders k = (k < length orders) × ((order_at orders k).state ≡ Waiting)
 
 -- those that wait, but the one that was activated, wait still
-pub rest_waits : (k : ℕ) (ks : List ℕ) (before after : List Order) → Beside k before after → count_by (eqb k) ks ≡ 0 → All (AtRest before) ks → All (AtRest after) ks
+pub rest_waits : (k : ℕ) (ks : List ℕ) (before after : List Order) → Beside k before after → count_by (eqb k) ks ≡ 0 → AllByRecursion (AtRest before) ks → AllByRecursion (AtRest after) ks
 rest_waits k [] before after beside absent waits = tt
 rest_waits k (j ∷ js) before after beside absent waits =
     let count = count_cons k j js in
@@ -236,7 +236,7 @@ due_once time orders j =
 -- the orders at some places enter, one after another
 pub activations_lawful : (rule : Rule) → LawfulRule rule → (ks : List ℕ) (w : World) → LawfulDay w.day
     → w.day.used + length ks * opposite Deposit w.day.orders ≤ w.day.settings.rows
-    → All (AtRest w.day.orders) ks → ((j : ℕ) → count_by (eqb j) ks ≤ 1) → LawfulDay (activations rule ks w).world.day
+    → AllByRecursion (AtRest w.day.orders) ks → ((j : ℕ) → count_by (eqb j) ks ≤ 1) → LawfulDay (activations rule ks w).world.day
 unfolding activations
 activations_lawful rule lawful [] w day room waits once = day
 activations_lawful rule lawful (k ∷ ks) w day room waits once =
@@ -249,7 +249,7 @@ activations_lawful rule lawful (k ∷ ks) w day room waits once =
     (rest_waits k ks w.day.orders (activated rule k w).world.day.orders first.beside absent waits.1) (λ j. omega (arith, count_cons j k ks, once j))
 
 -- the due orders are at rest
-pub due_rest : (time : ℕ) (orders : List Order) → All (AtRest orders) (due time orders)
+pub due_rest : (time : ℕ) (orders : List Order) → AllByRecursion (AtRest orders) (due time orders)
 due_rest time orders = All-weaker (λ j. (j < length orders) × Due time (order_at orders j)) (AtRest orders) (λ j is. (is.0, is.1.0)) (due time orders) (due_all time orders)
 
 -- clock

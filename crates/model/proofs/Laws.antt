@@ -1,6 +1,6 @@
 -- The law of every list of calls.
 use Rattle.std.proofs.Common.{◌≡◌, ℕ, suc, ◌+◌, cond, eqb, List, [], ◌∷◌, ◌++◌, length, sym, refl, ap, ◌∙◌, arith}
-use Rattle.std.specs.List.{AllByRecursion as All}
+use Rattle.std.specs.List.{AllByRecursion}
 use Rattle.std.proofs.lemmas.List.{take-append-drop}
 use Rattle.orders.specs.declared.kinds.Order.{Order}
 use Rattle.orders.specs.declared.kinds.Row.{Row}
@@ -70,12 +70,12 @@ holds s start w calls sound withdrawn = record {
 }
 
 -- every list of calls leaves a sound day
-ran_sound : (s : Settings) (start : World) (calls : List Call) (w : World) → All LawfulCall calls → SoundDay s start w → SoundDay s start (after calls w)
+ran_sound : (s : Settings) (start : World) (calls : List Call) (w : World) → AllByRecursion LawfulCall calls → SoundDay s start w → SoundDay s start (after calls w)
 ran_sound s start [] w lawful sound = sound
 ran_sound s start (c ∷ cs) w lawful sound = ran_sound s start cs (step c w).world lawful.1 (stepped s start w c lawful.0 sound).sound
 
 -- and withdraws what each of its calls does
-ran_withdrawn : (s : Settings) (start : World) (calls : List Call) (w : World) → All LawfulCall calls → SoundDay s start w
+ran_withdrawn : (s : Settings) (start : World) (calls : List Call) (w : World) → AllByRecursion LawfulCall calls → SoundDay s start w
     → (k : ℕ) → (order_at (after calls w).day.orders k).withdrawn ≡ (order_at w.day.orders k).withdrawn + withdrawn_over calls w (suc k)
 ran_withdrawn s start [] w lawful sound k = omega arith
 ran_withdrawn s start (c ∷ cs) w lawful sound k =

@@ -1,6 +1,6 @@
 -- The rows that name an order.
 use Rattle.std.proofs.Common.{◌≡◌, ℕ, ◌+◌, ◌-◌, ◌<◌, ◌≤◌, Bool, true, false, cond, ◌||◌, eqb, List, [], ◌∷◌, ◌++◌, length, get_or, sym, refl, ap, ◌∙◌, inl, inr, arith}
-use Rattle.std.specs.List.{AllByRecursion as All}
+use Rattle.std.specs.List.{AllByRecursion}
 use Rattle.std.proofs.ByRecursion.{All-get_or}
 use Rattle.std.proofs.lemmas.List.{length-append, get_or_append_left, get_or-append_right}
 use Rattle.std.proofs.lemmas.List.Sums.{sum_by-cons, sum_by-append}
@@ -23,7 +23,7 @@ pub named_append : (n : ℕ) (old new : List Row) → named_lots n (old ++ new) 
 named_append n old new = sum_by-append (λ (r : Row). cond (names_order n r) r.lots 0) old new
 
 -- rows with lots of which none is of order n do not name it
-pub unnamed_all : (n : ℕ) (rows : List Row) → All (λ r. 1 ≤ r.lots) rows → named_lots n rows ≡ 0 → All (λ r. names_order n r ≡ false) rows
+pub unnamed_all : (n : ℕ) (rows : List Row) → AllByRecursion (λ r. 1 ≤ r.lots) rows → named_lots n rows ≡ 0 → AllByRecursion (λ r. names_order n r ≡ false) rows
 unnamed_all n [] some zero_lots = tt
 unnamed_all n (r ∷ rs) some zero_lots =
     let both : named_lots n (r ∷ rs) ≡ cond (names_order n r) r.lots 0 + named_lots n rs = sum_by-cons (λ (q : Row). cond (names_order n q) q.lots 0) r rs in
@@ -35,7 +35,7 @@ pair_named Deposit n k r pair = grind (arith, nat_tests)
 pair_named Repo n k r pair = grind (arith, nat_tests)
 
 -- rows of an order that none before it names
-pub single_append : (n : ℕ) (old new : List Row) → OneRowEach old → OneRowEach new → All (λ r. names_order n r ≡ false) old → All (λ r. names_order n r ≡ true) new → OneRowEach (old ++ new)
+pub single_append : (n : ℕ) (old new : List Row) → OneRowEach old → OneRowEach new → AllByRecursion (λ r. names_order n r ≡ false) old → AllByRecursion (λ r. names_order n r ≡ true) new → OneRowEach (old ++ new)
 single_append n old new first last without with i j none inside within deposits repos =
     elim (cases_lt i (length old)) [
       | inl low ↦ elim (cases_lt j (length old)) [

@@ -1,6 +1,6 @@
 -- One round: what it divides, and what it leaves.
 use Rattle.std.proofs.Common.{◌≡◌, ℕ, ◌+◌, ◌*◌, ◌<◌, ◌≤◌, Bool, true, false, cond, not, eqb, ◌⊎◌, List, [], ◌∷◌, ◌++◌, length, sum, count_by, filter, sym, refl, ap, ◌∙◌, subst, inl, inr, le_trans, mul-le-mul_right, arith}
-use Rattle.std.specs.List.{AllByRecursion as All}
+use Rattle.std.specs.List.{AllByRecursion}
 use Rattle.std.proofs.ByRecursion.{All-map}
 use Rattle.std.proofs.lemmas.List.{length-map, get_or_past}
 use Rattle.std.proofs.lemmas.List.Sums.{sum_by-cons, count_by-le-length}
@@ -162,7 +162,7 @@ met_visible e m sound k offer =
     (shows.0, omega (arith, visible_within o.terms.sum o.terms.percent))
 
 -- visible sums have a sum
-sum_some : (xs : List ℕ) → All VisibleSum xs → 1 ≤ length xs → 1 ≤ sum xs
+sum_some : (xs : List ℕ) → AllByRecursion VisibleSum xs → 1 ≤ length xs → 1 ≤ sum xs
 sum_some [] each some = omega arith
 sum_some (x ∷ xs) each some = omega (arith, sum_by-cons (λ (y : ℕ). y) x xs, each.0.0)
 
@@ -173,7 +173,7 @@ unfolding round_lots
 round_lawful s e left m sound some is =
     let v : List ℕ = visible_at m.orders (front s e m) in
     let long : length v ≡ length (front s e m) = length-map (front s e m) (λ k. (order_at m.orders k).visible) in
-    let each : All VisibleSum v =
+    let each : AllByRecursion VisibleSum v =
     All-map VisibleSum (λ k. (order_at m.orders k).visible) (front s e m)
     (all_from_counted (λ k. VisibleSum (order_at m.orders k).visible) (front s e m) (λ k c. met_visible e m sound k (counted_front s e m sound k c).0)) in
     let one : 1 ≤ length v = omega (arith, front_some s e m sound is) in
@@ -196,7 +196,7 @@ pub record Round (e : Terms) (n q : ℕ) (m after : Market) : Type 0 where
   pub queue : after.queue ≡ filter (λ k. not (refills (share k) (order_at m.orders k))) m.queue ++ filter (λ k. refills (share k) (order_at m.orders k)) m.queue
   pub registers : (d : Direction) → registered d after.orders ≡ registered d m.orders
   pub concludes : (k : ℕ) → concluded_with e.direction n after.rows k ≡ concluded_with e.direction n m.rows k + share k
-  pub new_rows : (before : List Order) → ((k : ℕ) → Offer e m k → Partner e before m.orders k) → All (NewRow e n before) m.rows → All (NewRow e n before) after.rows
+  pub new_rows : (before : List Order) → ((k : ℕ) → Offer e m k → Partner e before m.orders k) → AllByRecursion (NewRow e n before) m.rows → AllByRecursion (NewRow e n before) after.rows
   pub single : OneRowEach m.rows → OneRowEach after.rows
 
 -- the shares of the front

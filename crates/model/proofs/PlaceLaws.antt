@@ -8,7 +8,6 @@ use Rattle.orders.specs.declared.kinds.Order.{Order}
 use Rattle.orders.specs.declared.kinds.Row.{Row}
 use Rattle.orders.specs.declared.kinds.Remainder.TheVariants.{FillOrReject}
 use Rattle.orders.specs.declared.kinds.Terms.{Terms}
-use Rattle.orders.specs.declared.refusals.Refusal.TheVariants as refused
 use Rattle.orders.specs.declared.settings.Settings.{Settings}
 use Rattle.model.specs.Calls.{LawfulRule}
 use Rattle.model.specs.Choices.{TooLittle}

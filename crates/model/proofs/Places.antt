@@ -1,6 +1,6 @@
 -- Lists of places: counts, and the orders by their places.
 use Rattle.std.proofs.Common.{◌≡◌, ℕ, zero, suc, ◌+◌, ◌*◌, ◌<◌, ◌≤◌, Bool, true, false, cond, not, eqb, List, [], ◌∷◌, ◌++◌, map, length, get_or, sum, count_by, filter, sym, refl, ap, ◌∙◌, subst, inl, inr, arith}
-use Rattle.std.specs.List.{AllByRecursion as All}
+use Rattle.std.specs.List.{AllByRecursion}
 use Rattle.std.proofs.lemmas.List.Filters.{sum_by-filter_both}
 use Rattle.std.proofs.lemmas.List.Sums.{sum_by-cons, sum_by-append}
 use Rattle.std.proofs.lemmas.Bool.{cases_eq, cases_lt, cond_both}
@@ -69,7 +69,7 @@ count_parted q k ks =
     twice false = refl
 
 -- what holds of all holds of one that is there
-pub all_counted : (P : ℕ → Type 0) (k : ℕ) (ks : List ℕ) → All P ks → 1 ≤ count_by (eqb k) ks → P k
+pub all_counted : (P : ℕ → Type 0) (k : ℕ) (ks : List ℕ) → AllByRecursion P ks → 1 ≤ count_by (eqb k) ks → P k
 all_counted P k [] all some = absurd (omega arith)
 all_counted P k (c ∷ cs) all some =
     elim (cases_eq k c) [
@@ -78,7 +78,7 @@ all_counted P k (c ∷ cs) all some =
     ]
 
 -- and what holds of each that is there holds of all
-pub all_from_counted : (P : ℕ → Type 0) (ks : List ℕ) → ((k : ℕ) → 1 ≤ count_by (eqb k) ks → P k) → All P ks
+pub all_from_counted : (P : ℕ → Type 0) (ks : List ℕ) → ((k : ℕ) → 1 ≤ count_by (eqb k) ks → P k) → AllByRecursion P ks
 all_from_counted P [] each = tt
 all_from_counted P (c ∷ cs) each = (each c (count_here c cs), all_from_counted P cs (λ k some. each k (omega (arith, count_behind k c cs))))
 

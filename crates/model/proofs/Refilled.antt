@@ -1,16 +1,14 @@
 -- Those that show lots again in a round, and the others, each in the order in which they stood.
-use Rattle.std.proofs.Common.{◌≡◌, ℕ, ◌+◌, ◌-◌, ◌<◌, ◌≤◌, min, Bool, true, false, cond, not, eqb, ltb, ◌⊎◌, List, ◌++◌, length, filter, sym, refl, ap, ◌∙◌, ap₂, inl, inr, zero-add, arith}
+use Rattle.std.proofs.Common.{◌≡◌, ℕ, ◌<◌, ◌≤◌, Bool, true, false, cond, not, eqb, ◌⊎◌, List, ◌++◌, length, filter, sym, refl, ap, ◌∙◌, ap₂, inl, inr, zero-add, arith}
 use mathlib.Core.Path.{fun_ext}
 use Rattle.std.proofs.lemmas.List.{get_or_past}
 use Rattle.std.proofs.lemmas.Bool.{cases_lt}
 use Rattle.std.proofs.lemmas.Bool.Decides.{nat_tests}
 use Rattle.orders.specs.Visible.{visible_sum}
 use Rattle.orders.specs.declared.kinds.Order.{Order}
-use Rattle.orders.specs.declared.kinds.Terms.{Terms}
-use Rattle.orders.specs.declared.settings.Settings.{Settings}
-use Rattle.model.specs.Market.{Market, none, order_at, front, visible_at}
-use Rattle.model.specs.Refills.{Plain, InTurn, RefillsInTurn}
-use Rattle.model.specs.Rounds.{Rule, share_at, concluded, spent, shown_again, refills, after_share, each_from, after_round, round, round_lots}
+use Rattle.model.specs.Market.{none, order_at, front, visible_at}
+use Rattle.model.specs.Refills.{Plain, RefillsInTurn}
+use Rattle.model.specs.Rounds.{share_at, concluded, spent, shown_again, refills, after_share, each_from, after_round, round, round_lots}
 use Rattle.model.proofs.OneOrder.{visible_some}
 use Rattle.model.proofs.Places.{each_at, each_length}
 

@@ -1,6 +1,6 @@
 -- The rows that an entry makes: their sums by pair and by order, that each is lawful, and how many they are.
 use Rattle.std.proofs.Common.{◌≡◌, ℕ, zero, suc, ◌+◌, ◌<◌, ◌≤◌, Bool, true, false, cond, not, ◌&&◌, ◌||◌, eqb, ◌⊎◌, List, [], ◌∷◌, length, get_or, sum_by, count_by, sym, refl, ap, ◌∙◌, ap₂, inl, inr, arith}
-use Rattle.std.specs.List.{AllByRecursion as All}
+use Rattle.std.specs.List.{AllByRecursion}
 use Rattle.std.proofs.ByRecursion.{All-get_or, All-from_get_or, All-weaker}
 use Rattle.std.proofs.lemmas.List.Sums.{sum_by-cons}
 use Rattle.std.proofs.lemmas.Bool.{cases_Bool, cond_both, cond-true, cond-false, eqb-true, eq-eqb, both_ways}
@@ -74,12 +74,12 @@ concluded_with_add_rows s d n orders (c ∷ cs) (lots ∷ shares) rows k =
         ∙ ap (λ (x : ℕ). concluded_with d n rows k + x) (ap₂ (λ (t : Bool) (x : ℕ). cond t x 0) (is_pair_row_with s d n orders c lots k) (lots_row_with s d n orders c lots))
 
 -- what holds of a new row, and of a row of its pair that grows, holds of all
-all_add_row : (P : Row → Type 0) (row : Row) (rows : List Row) → P row → ((r : Row) → P r → P (grown r row.lots)) → All P rows → All P (add_row row rows)
+all_add_row : (P : Row → Type 0) (row : Row) (rows : List Row) → P row → ((r : Row) → P r → P (grown r row.lots)) → AllByRecursion P rows → AllByRecursion P (add_row row rows)
 unfolding add_row
 all_add_row P row [] here grows h = (here, tt)
 all_add_row P row (r ∷ rs) here grows h = first (same_pair row r) (all_add_row P row rs here grows h.1)
   where
-    first : (t : Bool) → All P (add_row row rs) → All P (cond t (grown r row.lots ∷ rs) (r ∷ add_row row rs))
+    first : (t : Bool) → AllByRecursion P (add_row row rs) → AllByRecursion P (cond t (grown r row.lots ∷ rs) (r ∷ add_row row rs))
     first true rest = (grows r h.0, h.1)
     first false rest = (h.0, rest)
 
@@ -116,13 +116,13 @@ pub record Partner (e : Terms) (before orders : List Order) (c : ℕ) : Type 0 w
 
 -- a round's rows are rows of the entry
 pub new_rows_add_rows : (s : Settings) (e : Terms) (n : ℕ) (before orders : List Order) (cs shares : List ℕ) (rows : List Row)
-    → All (Partner e before orders) cs → All (NewRow e n before) rows → All (NewRow e n before) (add_rows s e.direction n orders cs shares rows)
+    → AllByRecursion (Partner e before orders) cs → AllByRecursion (NewRow e n before) rows → AllByRecursion (NewRow e n before) (add_rows s e.direction n orders cs shares rows)
 unfolding add_rows
 new_rows_add_rows s e n before orders [] shares rows partners new = new
 new_rows_add_rows s e n before orders (c ∷ cs) [] rows partners new = new
 new_rows_add_rows s e n before orders (c ∷ cs) (lots ∷ shares) rows partners new =
     new_rows_add_rows s e n before orders cs shares (cond (eqb lots 0) rows (add_row (row_with s e.direction n orders c lots) rows)) partners.1
-    (cond_both (eqb lots 0) rows (add_row (row_with s e.direction n orders c lots) rows) (All (NewRow e n before)) (λ none. new)
+    (cond_both (eqb lots 0) rows (add_row (row_with s e.direction n orders c lots) rows) (AllByRecursion (NewRow e n before)) (λ none. new)
     (λ some. all_add_row (NewRow e n before) (row_with s e.direction n orders c lots) rows
     (new_row_row_with s e n before orders c lots partners.0.stands partners.0.met partners.0.terms (grind (arith, nat_tests)))
     (λ r was. new_row_grown e n before (row_with s e.direction n orders c lots).lots r was) new))
@@ -130,7 +130,7 @@ new_rows_add_rows s e n before orders (c ∷ cs) (lots ∷ shares) rows partners
 -- no two rows of one pair, row by row
 abbrev Distinct : List Row → Type 0
 Distinct [] = Unit {0}
-Distinct (r ∷ rs) = All (λ q. same_pair r q ≡ false) rs × Distinct rs
+Distinct (r ∷ rs) = AllByRecursion (λ q. same_pair r q ≡ false) rs × Distinct rs
 
 distinct_from : (rows : List Row) → OneRowEach rows → Distinct rows
 distinct_from [] single = tt
@@ -200,7 +200,7 @@ new_partner e n orders k r new pair =
     rw is (new.stands, new.met)
 
 -- no row counts at a place where no order is admissible to the entering one
-others_none : (e : Terms) (n : ℕ) (orders : List Order) (rows : List Row) (k : ℕ) (x : Row → ℕ) → All (NewRow e n orders) rows
+others_none : (e : Terms) (n : ℕ) (orders : List Order) (rows : List Row) (k : ℕ) (x : Row → ℕ) → AllByRecursion (NewRow e n orders) rows
     → (k < length orders → Admissible e (order_at orders k) → ⊥) → sum_by (λ r. cond (is_pair e.direction n k r) (x r) 0) rows ≡ 0
 others_none e n orders rows k x new not =
     sum_by_zero _ rows
@@ -210,7 +210,7 @@ others_none e n orders rows k x new not =
     rows new)
 
 -- nothing is concluded with an order that is not registered or not admissible
-pub concluded_with_others : (e : Terms) (n : ℕ) (orders : List Order) (rows : List Row) (k : ℕ) → All (NewRow e n orders) rows
+pub concluded_with_others : (e : Terms) (n : ℕ) (orders : List Order) (rows : List Row) (k : ℕ) → AllByRecursion (NewRow e n orders) rows
     → (k < length orders → Admissible e (order_at orders k) → ⊥) → concluded_with e.direction n rows k ≡ 0
 concluded_with_others e n orders rows k = others_none e n orders rows k (λ r. r.lots)
 
@@ -243,7 +243,7 @@ one_each [] = refl
 one_each (r ∷ rs) = omega (arith, sum_by-cons (λ q. 1) r rs, one_each rs)
 
 -- the rows of an entry are at most as many as there are active orders of the other direction
-pub few_rows : (e : Terms) (n : ℕ) (orders : List Order) (rows : List Row) → All (NewRow e n orders) rows → OneRowEach rows → length rows ≤ opposite e.direction orders
+pub few_rows : (e : Terms) (n : ℕ) (orders : List Order) (rows : List Row) → AllByRecursion (NewRow e n orders) rows → OneRowEach rows → length rows ≤ opposite e.direction orders
 few_rows e n orders rows new single =
     let each : sum_by (λ r. total (length orders) (λ k. cond (is_pair e.direction n k r) 1 0)) rows ≡ sum_by (λ r. 1) rows =
     sum_by_same _ _ rows (All-weaker _ _ (λ r is. new_total e n orders r 1 is) rows new) in
@@ -272,7 +272,7 @@ pair_names Deposit n k r pair m = grind (arith, nat_tests)
 pair_names Repo n k r pair m = grind (arith, nat_tests)
 
 -- the rows that name another order than the entering one are those of their pair
-pub named_partner : (e : Terms) (n : ℕ) (orders : List Order) (rows : List Row) (k : ℕ) → All (NewRow e n orders) rows → (n ≡ suc k → ⊥)
+pub named_partner : (e : Terms) (n : ℕ) (orders : List Order) (rows : List Row) (k : ℕ) → AllByRecursion (NewRow e n orders) rows → (n ≡ suc k → ⊥)
     → sum_by (λ r. cond (eqb r.deposit (suc k) || eqb r.repo (suc k)) r.lots 0) rows ≡ concluded_with e.direction n rows k
 named_partner e n orders rows k new other =
     sum_by_same _ _ rows
@@ -285,7 +285,7 @@ named_partner e n orders rows k new other =
     names j = grind (arith, nat_tests)
 
 -- all rows name the entering order
-pub named_entering : (e : Terms) (n : ℕ) (orders : List Order) (rows : List Row) → All (NewRow e n orders) rows
+pub named_entering : (e : Terms) (n : ℕ) (orders : List Order) (rows : List Row) → AllByRecursion (NewRow e n orders) rows
     → sum_by (λ r. cond (eqb r.deposit n || eqb r.repo n) r.lots 0) rows ≡ total (length orders) (concluded_with e.direction n rows)
 named_entering e n orders rows new =
     sum_by_same _ _ rows

@@ -1,6 +1,6 @@
 -- Lists of calls that go on call by call obey the law.
 use Rattle.std.proofs.Common.{◌≡◌, ℕ, ◌≤◌, List, [], ◌∷◌, ◌++◌, length, refl, ap, ◌∙◌, subst}
-use Rattle.std.specs.List.{AllByRecursion as All}
+use Rattle.std.specs.List.{AllByRecursion}
 use Rattle.std.proofs.ByRecursion.{All-push}
 use Rattle.clearing.specs.Book.{Book}
 use Rattle.orders.specs.Answers.{Answer}
@@ -37,7 +37,7 @@ opened_list s register cover = refl
 extends : (c : Call) (before next : World) → LawfulCall c → (step c before).world ≡ next → Extends c before next
 extends c before next lawful is s register cover calls all made =
     let start : World = opening s register cover in
-    let lawfuls : All LawfulCall (calls ++ (c ∷ [])) = All-push LawfulCall calls c all lawful in (
+    let lawfuls : AllByRecursion LawfulCall (calls ++ (c ∷ [])) = All-push LawfulCall calls c all lawful in (
       every_list s register cover (calls ++ (c ∷ [])) lawfuls,
       lawfuls,
       after_append calls (c ∷ []) start ∙ ap (λ (w : World). (step c w).world) made ∙ is,

@@ -1,6 +1,6 @@
 -- What every day keeps, with its register and its cover.
 use Rattle.std.proofs.Common.{◌≡◌, ℕ, suc, ◌+◌, ◌-◌, ◌<◌, ◌≤◌, cond, eqb, List, [], ◌∷◌, ◌++◌, length, take, drop, sum_by, sym, refl, ap, ◌∙◌, subst, append_assoc, arith}
-use Rattle.std.specs.List.{AllByRecursion as All}
+use Rattle.std.specs.List.{AllByRecursion}
 use Rattle.std.proofs.lemmas.List.{length-take, length-take-le, length-drop, length-append, take-append-drop, take_at, drop_at, take-take, drop-take, take-append-le, drop-append-le, drop-drop}
 use Rattle.std.proofs.lemmas.List.Sums.{sum_by-cons, get_or-le-sum_by}
 use Rattle.std.proofs.lemmas.Bool.Decides.{nat_tests}
@@ -34,7 +34,7 @@ pub record SoundPlace (rows : List Row) (k : ℕ) (o : Order) : Type 0 where
 pub record SoundRows (orders : List Order) (rows : List Row) : Type 0 where
   pub places : (k : ℕ) → k < length orders → SoundPlace rows k (order_at orders k)
   pub unnamed : (k : ℕ) → length orders ≤ k → named_lots (suc k) rows ≡ 0
-  pub some : All (λ r. 1 ≤ r.lots) rows
+  pub some : AllByRecursion (λ r. 1 ≤ r.lots) rows
   pub single : OneRowEach rows
 
 -- a day that began so

@@ -1,5 +1,5 @@
 -- One call: the day that it leaves, its rows, and what it withdrew from each order.
-use Rattle.std.proofs.Common.{◌≡◌, ℕ, suc, ◌+◌, ◌-◌, false, eqb, List, [], ◌++◌, length, take, drop, sym, refl, ap, ◌∙◌, subst, arith}
+use Rattle.std.proofs.Common.{◌≡◌, ℕ, suc, ◌+◌, false, eqb, List, [], ◌++◌, length, take, drop, sym, refl, ap, ◌∙◌, subst, arith}
 use Rattle.std.proofs.lemmas.List.{append-nil, take-append-drop, take-append-le, take-take, drop_at}
 use Rattle.std.proofs.lemmas.Bool.{eq-eqb, ne_eqb}
 use Rattle.orders.specs.Answers.{refusal_number, refused_for}
@@ -13,7 +13,7 @@ use Rattle.model.specs.Clock.{clock_table, clocked, clocking}
 use Rattle.model.specs.Days.{World, Outcome}
 use Rattle.model.specs.Law.{CallLaw}
 use Rattle.model.specs.Ledger.{made, added, withdrawn_by}
-use Rattle.model.specs.Market.{none, order_at}
+use Rattle.model.specs.Market.{order_at}
 use Rattle.model.specs.Place.{place_table, placed, placing}
 use Rattle.model.specs.Rounds.{Rule}
 use Rattle.model.specs.Withdraw.{withdraw_table, withdrawn, withdrawing}

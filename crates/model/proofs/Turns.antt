@@ -1,6 +1,6 @@
 -- One turn of a day: an order enters or not, and then one more order stands in the day, or one of its orders has ended.
-use Rattle.std.proofs.Common.{◌≡◌, ℕ, zero, suc, ◌+◌, ◌-◌, ◌<◌, ◌≤◌, true, ◌⊎◌, List, [], ◌++◌, length, sym, refl, ap, ◌∙◌, subst, inl, inr, arith}
-use Rattle.std.specs.List.{AllByRecursion as All}
+use Rattle.std.proofs.Common.{◌≡◌, ℕ, zero, suc, ◌+◌, ◌<◌, ◌≤◌, true, ◌⊎◌, List, [], ◌++◌, length, sym, refl, ap, ◌∙◌, subst, inl, inr, arith}
+use Rattle.std.specs.List.{AllByRecursion}
 use Rattle.std.proofs.ByRecursion.{All-append, All-weaker}
 use Rattle.std.proofs.lemmas.List.{append-nil}
 use Rattle.std.proofs.lemmas.Bool.{cases_lt}
@@ -38,7 +38,7 @@ pub record Turned (s : Settings) (w : World) (n : ℕ) (orders : List Order) (qu
   pub lasting : (k : ℕ) → k < length orders → Lasting (order_at w.day.orders k) (order_at orders k)
   pub places : (k : ℕ) → k < length orders → (suc k ≡ n → ⊥) → SoundPlace (made w ++ new) k (order_at orders k)
   pub unnamed : (k : ℕ) → length orders ≤ k → (suc k ≡ n → ⊥) → named_lots (suc k) (made w ++ new) ≡ 0
-  pub some : All (λ r. 1 ≤ r.lots) (made w ++ new)
+  pub some : AllByRecursion (λ r. 1 ≤ r.lots) (made w ++ new)
   pub single : OneRowEach (made w ++ new)
   pub within : w.day.used + length new ≤ s.rows
   pub fits : w.day.used + length new ≤ length w.register

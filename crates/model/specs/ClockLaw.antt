@@ -5,13 +5,13 @@ use Rattle.orders.specs.declared.kinds.Remainder.TheVariants.{FillOrReject}
 use Rattle.orders.specs.declared.kinds.State.TheVariants.{Waiting}
 use Rattle.model.specs.Choices.{TooLittle, taken, concluded_with}
 use Rattle.model.specs.Clock.{clock_table, at_time}
-use Rattle.model.specs.Days.{Day, World, Outcome, written}
+use Rattle.model.specs.Days.{World, Outcome, written}
 use Rattle.model.specs.Entry.{Enters}
 use Rattle.model.specs.Judging.{Judged}
 use Rattle.model.specs.Ledger.{value}
 use Rattle.model.specs.Market.{Market, order_at, lots_of}
 use Rattle.model.specs.Place.{market_of}
-use Rattle.model.specs.WithdrawLaw.{Ended, OnlyEnded, Releases}
+use Rattle.model.specs.WithdrawLaw.{OnlyEnded, Releases}
 
 -- a waiting order whose activation is at most a time
 abbrev pub Due : ℕ → Order → Type 0

@@ -1,5 +1,5 @@
 -- Close: all that rests or waits is withdrawn, and the closed day has its statement.
-use Rattle.std.specs.Prelude.{ℕ, ◌-◌, cond, List, [], ◌∷◌, map}
+use Rattle.std.specs.Prelude.{ℕ, ◌-◌, List, [], ◌∷◌, map}
 use Rattle.clearing.specs.Book.{Book, released}
 use Rattle.orders.specs.declared.kinds.Order.{Order}
 use Rattle.orders.specs.declared.lifecycle.Event.TheVariants.{Close}

@@ -1,5 +1,5 @@
 -- The law of close and of the final statement.
-use Rattle.std.specs.Prelude.{◌≡◌, ℕ, suc, ◌+◌, ◌<◌, cond, List, [], length, ◌==◌, slice_index_or}
+use Rattle.std.specs.Prelude.{◌≡◌, ℕ, suc, ◌+◌, ◌<◌, cond, List, length, ◌==◌, slice_index_or}
 use Rattle.model.specs.Calls.{Call}
 use Rattle.model.specs.Choices.{total}
 use Rattle.model.specs.Close.{Stated, statement}

@@ -1,5 +1,5 @@
 -- A day with its register and its cover.
-use Rattle.std.specs.Prelude.{ℕ, ◌+◌, Bool, true, false, List, [], ◌∷◌, ◌++◌, length, take, drop, Some, None, Option}
+use Rattle.std.specs.Prelude.{ℕ, ◌+◌, List, [], ◌++◌, length, take, drop, Some, None}
 use Rattle.clearing.specs.Book.{Book}
 use Rattle.orders.specs.Answers.{Answer, refused_for}
 use Rattle.orders.specs.Checks.{opening_time}

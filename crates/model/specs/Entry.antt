@@ -1,6 +1,6 @@
 -- What the entry of an order leaves, in the market's own words.
-use Rattle.std.specs.Prelude.{◌≡◌, ℕ, ◌+◌, ◌<◌, ◌≤◌, Bool, true, not, List, ◌++◌, length, filter, nat_eq, slice_index_or}
-use Rattle.std.specs.List.{AllByRecursion as All}
+use Rattle.std.specs.Prelude.{◌≡◌, ℕ, ◌+◌, ◌<◌, ◌≤◌, true, List, ◌++◌, length, filter, nat_eq, slice_index_or}
+use Rattle.std.specs.List.{AllByRecursion}
 use Rattle.orders.specs.declared.kinds.Order.{Order}
 use Rattle.orders.specs.declared.kinds.Row.{Row}
 use Rattle.orders.specs.declared.kinds.State.TheVariants.{Done}
@@ -37,12 +37,12 @@ pub record Touched (c : ℕ) (o after : Order) : Type 0 where
 pub record Queued (before after : Market) : Type 0 where
   pub back : List ℕ
   pub queue : after.queue ≡ filter (λ k. nat_eq (order_at after.orders k).hidden (order_at before.orders k).hidden) before.queue ++ back
-  pub showed : All (λ k. (order_at after.orders k).hidden < (order_at before.orders k).hidden) back
+  pub showed : AllByRecursion (λ k. (order_at after.orders k).hidden < (order_at before.orders k).hidden) back
 
 -- the entry of order n with the terms e into a market: what it concluded, the rows it made, the orders it touched, and the queue
 pub record Enters (e : Terms) (n : ℕ) (before after : Market) : Type 0 where
   pub concludes : Concludes e n before.orders after.rows
-  pub rows : All (NewRow e n before.orders) after.rows
+  pub rows : AllByRecursion (NewRow e n before.orders) after.rows
   pub single : OneRowEach after.rows
   pub same : length after.orders ≡ length before.orders
   pub orders : (k : ℕ) → k < length before.orders → Touched (concluded_with e.direction n after.rows k) (order_at before.orders k) (order_at after.orders k)

@@ -1,6 +1,6 @@
 -- The law of every list of calls.
 use Rattle.std.specs.Prelude.{◌≡◌, ℕ, suc, ◌+◌, ◌<◌, ◌≤◌, cond, List, ◌++◌, length, drop, ◌==◌}
-use Rattle.std.specs.List.{AllByRecursion as All}
+use Rattle.std.specs.List.{AllByRecursion}
 use Rattle.clearing.specs.Book.{Book}
 use Rattle.orders.specs.declared.kinds.Code.{Code}
 use Rattle.orders.specs.declared.kinds.Direction.{Direction}
@@ -11,7 +11,6 @@ use Rattle.orders.specs.declared.kinds.State.TheVariants.{Done, Waiting, Active}
 use Rattle.orders.specs.declared.settings.Settings.{Settings}
 use Rattle.model.specs.Calls.{Call, place, withdraw, clock, LawfulCall, handed, given_back, step, after, opening}
 use Rattle.model.specs.Choices.{TermsMeet, total}
-use Rattle.model.specs.Clock.{clocking}
 use Rattle.model.specs.ClockLaw.{ClockLaw}
 use Rattle.model.specs.Close.{closing}
 use Rattle.model.specs.CloseLaw.{Closed, States}
@@ -21,7 +20,6 @@ use Rattle.model.specs.DepthLaw.{ReportLaw}
 use Rattle.model.specs.Entry.{OneRowEach}
 use Rattle.model.specs.Ledger.{made, added, named_lots, withdrawn_over}
 use Rattle.model.specs.Market.{order_at, lots_of}
-use Rattle.model.specs.Place.{placing}
 use Rattle.model.specs.PlaceLaw.{PlaceLaw, IsVisible}
 use Rattle.model.specs.WithdrawLaw.{WithdrawLaw}
 
@@ -70,4 +68,4 @@ pub record Law (s : Settings) (register : List Row) (cover : Book) (calls : List
 
 -- the law of every list of calls, each with a lawful rule of its own, from every newly opened day over any register and any cover
 abbrev pub EveryList : Type 0
-EveryList = (s : Settings) (register : List Row) (cover : Book) (calls : List Call) → All LawfulCall calls → Law s register cover calls
+EveryList = (s : Settings) (register : List Row) (cover : Book) (calls : List Call) → AllByRecursion LawfulCall calls → Law s register cover calls

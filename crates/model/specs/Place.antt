@@ -2,7 +2,7 @@
 use Rattle.std.specs.Prelude.{ℕ, suc, ◌+◌, ◌-◌, Bool, true, false, cond, not, ◌&&◌, List, [], ◌∷◌, ◌++◌, length, count_by, ◌==◌, nat_le, nat_lt}
 use Rattle.clearing.specs.Book.{can_reserve, reserved, released}
 use Rattle.orders.specs.Answers.{accepted}
-use Rattle.orders.specs.Checks.{is_deposit, rests, waits_first}
+use Rattle.orders.specs.Checks.{rests, waits_first}
 use Rattle.orders.specs.Life.{next_state}
 use Rattle.orders.specs.Table.{Table, terms_table}
 use Rattle.orders.specs.declared.kinds.Direction.{Direction}
@@ -10,7 +10,6 @@ use Rattle.orders.specs.declared.kinds.Direction.TheVariants.{Deposit, Repo}
 use Rattle.orders.specs.declared.kinds.Order.{Order}
 use Rattle.orders.specs.declared.kinds.Remainder.{Remainder}
 use Rattle.orders.specs.declared.kinds.Remainder.TheVariants.{Queue, Withdraw, FillOrReject}
-use Rattle.orders.specs.declared.kinds.Row.{Row}
 use Rattle.orders.specs.declared.kinds.State.TheVariants.{Active, Waiting}
 use Rattle.orders.specs.declared.kinds.Terms.{Terms}
 use Rattle.orders.specs.declared.lifecycle.Event.TheVariants.{Conclusion, Withdrawal}

@@ -1,5 +1,5 @@
 -- The law of place.
-use Rattle.std.specs.Prelude.{◌≡◌, ℕ, suc, ◌+◌, ◌-◌, ◌≤◌, min, true, false, List, [], ◌∷◌, ◌++◌, length, ◌≢◌}
+use Rattle.std.specs.Prelude.{◌≡◌, ℕ, suc, ◌+◌, ◌-◌, ◌≤◌, min, [], ◌∷◌, ◌++◌, length, ◌≢◌}
 use Rattle.clearing.specs.Book.{Book}
 use Rattle.orders.specs.Theorems.{RoundedUp}
 use Rattle.orders.specs.declared.kinds.Direction.TheVariants.{Deposit}

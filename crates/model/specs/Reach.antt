@@ -1,6 +1,6 @@
 -- Days that calls have made, each over a register and a cover of its own.
 use Rattle.std.specs.Prelude.{◌≡◌, List, [], ◌∷◌}
-use Rattle.std.specs.List.{AllByRecursion as All}
+use Rattle.std.specs.List.{AllByRecursion}
 use Rattle.clearing.specs.Book.{Book}
 use Rattle.orders.specs.declared.kinds.Row.{Row}
 use Rattle.orders.specs.declared.settings.Settings.{Settings}
@@ -25,7 +25,7 @@ day_after (h ∷ hs) d = day_after hs (day_by h d)
 
 -- calls with lawful rules
 abbrev pub LawfulHands : List Hand → Type 0
-LawfulHands hands = All (λ h. LawfulCall h.call) hands
+LawfulHands hands = AllByRecursion (λ h. LawfulCall h.call) hands
 
 -- some list of lawful calls made exactly this day of a newly opened one
 abbrev pub Reached : Day → Type 0

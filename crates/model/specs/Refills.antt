@@ -1,5 +1,5 @@
 -- Several orders that show lots again in one round.
-use Rattle.std.specs.Prelude.{◌≡◌, ℕ, ◌<◌, ◌≤◌, not, List, ◌++◌, length, filter, ◌==◌, nat_eq}
+use Rattle.std.specs.Prelude.{◌≡◌, ℕ, ◌<◌, ◌≤◌, not, ◌++◌, length, filter, ◌==◌, nat_eq}
 use Rattle.orders.specs.declared.kinds.Order.{Order}
 use Rattle.orders.specs.declared.kinds.Terms.{Terms}
 use Rattle.orders.specs.declared.settings.Settings.{Settings}

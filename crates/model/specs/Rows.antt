@@ -5,7 +5,6 @@ use Rattle.orders.specs.declared.kinds.Direction.{Direction}
 use Rattle.orders.specs.declared.kinds.Direction.TheVariants.{Deposit, Repo}
 use Rattle.orders.specs.declared.kinds.Order.{Order}
 use Rattle.orders.specs.declared.kinds.Row.{Row}
-use Rattle.orders.specs.declared.kinds.Terms.{Terms}
 use Rattle.orders.specs.declared.settings.Settings.{Settings}
 use Rattle.model.specs.Market.{order_at}
 

@@ -1,5 +1,5 @@
 -- Withdraw: a participant takes his order out.
-use Rattle.std.specs.Prelude.{ℕ, pred, ◌+◌, Bool, true, false, cond, not, ◌||◌, [], ◌∷◌, length, ◌==◌, nat_lt, slice_set}
+use Rattle.std.specs.Prelude.{ℕ, pred, ◌+◌, Bool, true, false, not, ◌||◌, [], ◌∷◌, length, ◌==◌, nat_lt, slice_set}
 use Rattle.clearing.specs.Book.{released}
 use Rattle.orders.specs.Answers.{accepted}
 use Rattle.orders.specs.Life.{next_state}

@@ -1,9 +1,9 @@
 -- The law of withdraw.
-use Rattle.std.specs.Prelude.{◌≡◌, ℕ, pred, ◌+◌, ◌<◌, ◌≤◌, List, length, ◌≢◌}
+use Rattle.std.specs.Prelude.{◌≡◌, ℕ, pred, ◌+◌, ◌≤◌, List, length, ◌≢◌}
 use Rattle.clearing.specs.Book.{Book}
 use Rattle.orders.specs.declared.kinds.Order.{Order}
 use Rattle.orders.specs.declared.kinds.State.TheVariants.{Done}
-use Rattle.model.specs.Days.{Day, World, Outcome}
+use Rattle.model.specs.Days.{World, Outcome}
 use Rattle.model.specs.Judging.{Judged}
 use Rattle.model.specs.Ledger.{value}
 use Rattle.model.specs.Market.{order_at, lots_of}

@@ -1,6 +1,5 @@
 -- Which orders may meet, and at which rate.
 use Rattle.std.specs.Prelude.{ℕ, ◌/◌, ◌%◌, ◌^◌, Bool, true, false, not, ◌&&◌, ◌||◌, ◌==◌, bit_and, nat_le, nat_lt}
-use Rattle.orders.specs.declared.kinds.Direction.{Direction}
 use Rattle.orders.specs.declared.kinds.Direction.TheVariants.{Deposit, Repo}
 use Rattle.orders.specs.declared.kinds.Kind.{Kind}
 use Rattle.orders.specs.declared.kinds.Kind.TheVariants.{Limit, Market}

@@ -1,6 +1,6 @@
 -- The bounds of a base and of what lies on it.
 use Rattle.std.proofs.Common.{rules, arith}
-use Rattle.std.specs.Prelude.{◌≡◌, ℕ, ◌+◌, ◌<◌, ◌≤◌}
+use Rattle.std.specs.Prelude.{◌≡◌, ℕ, ◌<◌, ◌≤◌}
 use Rattle.clearing.specs.Book.{Book, total}
 use Rattle.clearing.specs.Makeup.{lesser}
 use Rattle.clearing.specs.Sheet.{sheet_book}

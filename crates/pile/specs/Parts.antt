@@ -1,7 +1,7 @@
 -- The parts of a make-up by name: the base's limit or pots, and the caps by layer.
-use Rattle.std.specs.Prelude.{ℕ, zero, suc, ◌+◌, Bool, cond, Some, None, Option, ◌==◌}
-use Rattle.clearing.specs.Book.{Book, empty, settable, limited}
-use Rattle.clearing.specs.Pots.{Pots, empty_pots, pots_settable, pots_set}
+use Rattle.std.specs.Prelude.{ℕ, zero, suc, ◌+◌, cond, Some, None, Option, ◌==◌}
+use Rattle.clearing.specs.Book.{empty, settable, limited}
+use Rattle.clearing.specs.Pots.{empty_pots, pots_settable, pots_set}
 use Rattle.clearing.specs.Makeup.{Makeup, plain, pots, capped}
 use Rattle.clearing.specs.Refused.{number_of, refused_unless}
 use Rattle.pile.specs.declared.base.BaseKind.{BaseKind}

@@ -1,5 +1,5 @@
 -- A command's line is its first word, a space, and its arguments.
-use Rattle.std.proofs.Common.{◌≡◌, ℕ, suc, ◌^◌, ◌<◌, Bool, true, false, cond, eqb, ◌⊎◌, List, [], ◌∷◌, ◌++◌, map, length, IfSome, Some, None, Err, vec_items, codes, decimal, Option, sym, refl, ap, ◌∙◌, subst, inl, inr, ⊎_elim, arith, Bor, rules}
+use Rattle.std.proofs.Common.{◌≡◌, ℕ, suc, ◌^◌, ◌<◌, Bool, true, false, cond, eqb, ◌⊎◌, List, [], ◌∷◌, ◌++◌, length, IfSome, Some, None, Err, vec_items, codes, decimal, Option, sym, refl, ap, ◌∙◌, subst, inl, inr, ⊎_elim, arith, Bor, rules}
 use Rattle.script.proofs.Forms.{has_space, word_lacks}
 use Rattle.script.specs.Parses.{first_word, NoCommand, Parses, fault_of}
 use Rattle.std.proofs.lemmas.Str.Pattern.{IsSplitOnceResult}
@@ -10,7 +10,7 @@ use Rattle.sharing.specs.declared.chosen.Rule.{Rule}
 use Rattle.pile.specs.declared.base.BaseKind.{BaseKind}
 use Rattle.std.specs.Option.{option_map}
 use Rattle.std.specs.Str.Iter.{LacksByte}
-use Rattle.std.specs.List.{AllByRecursion as All}
+use Rattle.std.specs.List.{AllByRecursion}
 use Rattle.std.specs.Str.{bytes_eq}
 use Rattle.script.specs.Commands.{Fits, written, line_of}
 use Rattle.script.specs.Reads.{Reads}
@@ -80,7 +80,7 @@ arg_fits verb.Need x = fits3 x
 arg_fits verb.Left x = fits1 x
 arg_fits verb.Reserve x = fits2 x
 arg_fits verb.Release x = fits2 x
-arg_fits verb.Share x = Unit {0} × (Small x.rest.first × (Small x.rest.rest.first × IfSome x.rest.rest.more (λ ns. (0 < length (vec_items ns.all)) × All Small (vec_items ns.all))))
+arg_fits verb.Share x = Unit {0} × (Small x.rest.first × (Small x.rest.rest.first × IfSome x.rest.rest.more (λ ns. (0 < length (vec_items ns.all)) × AllByRecursion Small (vec_items ns.all))))
 
 abbrev arg_form : (v : Verb) → Arguments v → List ℕ
 arg_form verb.Clearing x = base_word x.first ++ (32 ∷ form1 x.rest)
@@ -111,11 +111,11 @@ pub record Parts (c : Command) : Type 0 where
   pub line : written c ≡ line_of verb (arg_form verb args)
 
 -- the sums of a share, which may be none
-shared : (rule : Rule) (q n : ℕ) (vs : Numbers) (ws : List ℕ) → vec_items vs.all ≡ ws → Small q → Small n → All Small ws → (x : Arguments verb.Share) × arg_fits verb.Share x × (line_of verb.Share (rule_word rule ++ (32 ∷ (decimal q ++ (32 ∷ numbers (n ∷ ws))))) ≡ line_of verb.Share (arg_form verb.Share x))
+shared : (rule : Rule) (q n : ℕ) (vs : Numbers) (ws : List ℕ) → vec_items vs.all ≡ ws → Small q → Small n → AllByRecursion Small ws → (x : Arguments verb.Share) × arg_fits verb.Share x × (line_of verb.Share (rule_word rule ++ (32 ∷ (decimal q ++ (32 ∷ numbers (n ∷ ws))))) ≡ line_of verb.Share (arg_form verb.Share x))
 shared rule q n vs [] is a b c = (record { first = rule; rest = record { first = q; rest = record { first = n; more = None } } }, (tt, (a, (b, tt))), refl)
 shared rule q n vs (w ∷ ws) is a b c =
     let some : 0 < length (vec_items vs.all) = rw is (omega arith) in
-    (record { first = rule; rest = record { first = q; rest = record { first = n; more = Some vs } } }, (tt, (a, (b, (some, subst (All Small) (sym is) c)))), ap (λ (l : List ℕ). line_of verb.Share (rule_word rule ++ (32 ∷ (decimal q ++ (32 ∷ (decimal n ++ (32 ∷ numbers l))))))) (sym is))
+    (record { first = rule; rest = record { first = q; rest = record { first = n; more = Some vs } } }, (tt, (a, (b, (some, subst (AllByRecursion Small) (sym is) c)))), ap (λ (l : List ℕ). line_of verb.Share (rule_word rule ++ (32 ∷ (decimal q ++ (32 ∷ (decimal n ++ (32 ∷ numbers l))))))) (sym is))
 
 parts : (c : Command) → Fits c → (c ≡ command.CoverAll) ⊎ Parts c
 parts (command.Clearing b n) f = inr (record { verb = verb.Clearing; args = record { first = b; rest = one n }; fits = (tt, f); line = refl })
@@ -258,6 +258,6 @@ abbrev form_of : Numbers → List ℕ
 form_of ns = numbers (vec_items ns.all)
 
 -- a number and the numbers that follow it, if any do
-pub share_line : (n : ℕ) (more : Option Numbers) (ws : List ℕ) → IfSome more (λ ns. (0 < length (vec_items ns.all)) × All Small (vec_items ns.all)) → ws ≡ listed more → All Small ws × (followed (decimal n) (option_map form_of more) ≡ numbers (n ∷ ws))
+pub share_line : (n : ℕ) (more : Option Numbers) (ws : List ℕ) → IfSome more (λ ns. (0 < length (vec_items ns.all)) × AllByRecursion Small (vec_items ns.all)) → ws ≡ listed more → AllByRecursion Small ws × (followed (decimal n) (option_map form_of more) ≡ numbers (n ∷ ws))
 share_line n None ws fits is = (rw is tt, rw is refl)
 share_line n (Some ns) ws fits is = (rw is fits.1, rw is (sym (numbers_more n (vec_items ns.all) fits.0)))

@@ -1,6 +1,5 @@
 -- The written form of every answer.
 use Rattle.std.specs.Prelude.{ℕ, Bool, true, false, List, [], ◌∷◌, ◌++◌, vec_items, codes, decimal}
-use Rattle.std.specs.List.{join_with_byte}
 use Rattle.clearing.specs.Refused.{number_of}
 use Rattle.script.specs.declared.answer.Answer.{Answer}
 use Rattle.script.specs.declared.answer.Answer.TheVariants as answer

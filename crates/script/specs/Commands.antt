@@ -1,6 +1,6 @@
 -- The written form of every command.
 use Rattle.std.specs.Prelude.{ℕ, ◌^◌, ◌<◌, List, [], ◌∷◌, ◌++◌, map, vec_items, codes, decimal}
-use Rattle.std.specs.List.{join_with_byte, AllByRecursion as All}
+use Rattle.std.specs.List.{join_with_byte, AllByRecursion}
 use Rattle.script.specs.Words.{rule_word, base_word}
 use Rattle.script.specs.Verbs.{verb_word}
 use Rattle.script.specs.declared.command.Command.{Command}
@@ -37,7 +37,7 @@ Fits (command.Need p s c) = (p < 2 ^ 32) × (s < 2 ^ 32) × (c < 2 ^ 32)
 Fits (command.Left p) = p < 2 ^ 32
 Fits (command.Reserve p s) = (p < 2 ^ 32) × (s < 2 ^ 32)
 Fits (command.Release p s) = (p < 2 ^ 32) × (s < 2 ^ 32)
-Fits (command.Share rule q n vs) = (q < 2 ^ 32) × (n < 2 ^ 32) × All (λ v. v < 2 ^ 32) (vec_items vs)
+Fits (command.Share rule q n vs) = (q < 2 ^ 32) × (n < 2 ^ 32) × AllByRecursion (λ v. v < 2 ^ 32) (vec_items vs)
 
 -- the line of a command whose first word is v, with what follows it
 abbrev pub line_of : Verb → List ℕ → List ℕ

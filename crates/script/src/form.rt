@@ -5,7 +5,7 @@ ghost use Rattle.script.specs.Reads.{ReadsWord, Reads, begins_plain};
 ghost use Rattle.script.specs.Words.{rule_word, base_word, followed, numbers};
 ghost use Rattle.script.specs.declared.form.Unread.TheVariants.{NoMemory};
 ghost use Rattle.std.specs.Option.{option_map};
-ghost use Rattle.std.specs.List.{AllByRecursion as All};
+ghost use Rattle.std.specs.List.{AllByRecursion};
 ghost use Rattle.script.specs.Numbers.{number_lacks_space};
 ghost use Rattle.std.proofs.Common.{rules};
 
@@ -184,7 +184,7 @@ pub struct Numbers {
 impl Written for Numbers {
     ghost allocates = { true };
 
-    ghost fits = { λ x. (0 < length x.all.items) × All (λ n. n < 2 ^ 32) x.all.items };
+    ghost fits = { λ x. (0 < length x.all.items) × AllByRecursion (λ n. n < 2 ^ 32) x.all.items };
 
     ghost form = { λ x. numbers x.all.items };
 

@@ -1,5 +1,5 @@
 -- Totals over participants, one more at a time.
-use Rattle.std.proofs.Common.{◌≡◌, ℕ, zero, suc, ◌+◌, ◌*◌, ◌<◌, ◌≤◌, List, refl, ap, add-one, arith}
+use Rattle.std.proofs.Common.{◌≡◌, ℕ, ◌+◌, refl, ap, add-one}
 use Rattle.session.specs.Totals.{total_below}
 
 pub total_none : (figures : ℕ → ℕ) → total_below 0 figures ≡ 0

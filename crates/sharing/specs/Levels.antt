@@ -1,7 +1,7 @@
 -- The parity level, and that sharing by parity divides q.
 use Rattle.std.specs.Prelude.{◌≡◌, ℕ, zero, suc, ◌+◌, ◌<◌, ◌≤◌, min, Bool, true, false, leb, List, [], ◌∷◌, length, drop, sum, nat_le, slice_index, refl}
 use Rattle.std.proofs.Common.{sym, ap, subst, ◌∙◌, ⊎_elim, arith}
-use Rattle.std.specs.List.{AllByRecursion as All}
+use Rattle.std.specs.List.{AllByRecursion}
 use Rattle.std.proofs.lemmas.List.{at_drop_more}
 use Rattle.std.proofs.lemmas.List.Sums.{sum_by-cons}
 use Rattle.std.proofs.lemmas.Bool.{both_ways, cases_Bool, cases_eq, cases_lt, le-leb, leb-true, lt-leb}
@@ -66,7 +66,7 @@ pub capped_le : (sums : List ℕ) (t : ℕ) → sum (capped sums t) ≤ sum sums
 capped_le [] t = omega arith
 capped_le (v ∷ vs) t = omega (arith, sum_by-cons (λ x. x) (min v t) (capped vs t), sum_by-cons (λ x. x) v vs, capped_le vs t)
 
-capped_full : (sums : List ℕ) → All VisibleSum sums → sum (capped sums 1000000) ≡ sum sums
+capped_full : (sums : List ℕ) → AllByRecursion VisibleSum sums → sum (capped sums 1000000) ≡ sum sums
 capped_full [] each = refl
 capped_full (v ∷ vs) each =
     omega (arith, each.0, sum_by-cons (λ x. x) (min v 1000000) (capped vs 1000000), sum_by-cons (λ x. x) v vs, capped_full vs each.1)
@@ -108,13 +108,13 @@ level_next sums q l =
     (cases_lt q (sum (capped sums (level sums q + 1))))
 
 -- enough sums are above the level to take the rest
-level_high : (sums : List ℕ) (q : ℕ) → All VisibleSum sums → q ≤ sum sums → q ≤ sum (capped sums (level sums q)) + below sums (capped sums (level sums q))
+level_high : (sums : List ℕ) (q : ℕ) → AllByRecursion VisibleSum sums → q ≤ sum sums → q ≤ sum (capped sums (level sums q)) + below sums (capped sums (level sums q))
 level_high sums q each covered =
     ⊎_elim (λ l. omega (arith, level_next sums q l, capped_next sums (level sums q)))
     (λ l. omega (arith, capped_full sums each, capped_mono sums 1000000 (level sums q) l))
     (cases_lt (level sums q) 1000000)
 
-pub parity_divides : (sums : List ℕ) (q : ℕ) → All VisibleSum sums → q ≤ sum sums → Divides sums q (parity_shares sums q)
+pub parity_divides : (sums : List ℕ) (q : ℕ) → AllByRecursion VisibleSum sums → q ≤ sum sums → Divides sums q (parity_shares sums q)
 parity_divides sums q each covered =
     divides_complete sums (capped sums (level sums q)) q (within_capped sums (level sums q)) (level_greatest sums q).fits
     (level_high sums q each covered)

@@ -1,6 +1,6 @@
 -- What a sharing rule is asked, and what every answer keeps.
 use Rattle.std.specs.Prelude.{◌≡◌, ℕ, ◌<◌, ◌≤◌, List, length, sum, slice_index}
-use Rattle.std.specs.List.{AllByRecursion as All}
+use Rattle.std.specs.List.{AllByRecursion}
 
 -- a visible sum is from 1 to 1,000,000 lots
 abbrev pub VisibleSum : ℕ → Type 0
@@ -10,7 +10,7 @@ VisibleSum v = (1 ≤ v) × (v ≤ 1000000)
 pub record Lawful (sums : List ℕ) (q : ℕ) : Type 0 where
   pub some : 1 ≤ length sums
   pub few : length sums ≤ 64
-  pub each : All VisibleSum sums
+  pub each : AllByRecursion VisibleSum sums
   pub least : 1 ≤ q
   pub covered : q ≤ sum sums
 

@@ -1,7 +1,7 @@
 // Which requests are lawful.
 ghost use Rattle.std.specs.Prelude.{◌≡◌, ◌^◌, ◌<◌, length, Decides, sum};
 ghost use Rattle.sharing.specs.Request.{Lawful, VisibleSum};
-ghost use Rattle.std.specs.List.{AllByRecursion as All};
+ghost use Rattle.std.specs.List.{AllByRecursion};
 
 /// The most sums in a request.
 const MAX_SUMS: usize = 64;
@@ -18,7 +18,7 @@ fn is_visible(v: u32) -> bool
 
 /// Whether each of `sums` is from 1 to `MAX_SUM`.
 fn all_visible(sums: &[u32]) -> bool
-    ensures { Decides result (All VisibleSum sums.now) }
+    ensures { Decides result (AllByRecursion VisibleSum sums.now) }
 {
     for &v in sums {
         if !is_visible(v) {

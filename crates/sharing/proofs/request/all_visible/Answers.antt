@@ -2,7 +2,7 @@ use Rattle.std.proofs.Common.{sym, refl, ◌∙◌, subst}
 use Rattle.std.proofs.ByRecursion.{All-get_or, All-more}
 use Rattle.std.proofs.lemmas.List.{take_all}
 use Rattle.std.proofs.lemmas.Bool.{false≢true}
-use Rattle.std.specs.List.{AllByRecursion as All}
+use Rattle.std.specs.List.{AllByRecursion}
 use Rattle.sharing.specs.Request.{VisibleSum}
 use Rattle.sharing.proofs.request.all_visible.Goals as goal
 
@@ -18,4 +18,4 @@ returns-then-not-is_visible c = (
 )
 
 pub returns : goal.returns
-returns c = (λ _. subst (All VisibleSum) (take_all _ _ c.loop-v-test.false) c.loop-v.invariant, λ _. refl)
+returns c = (λ _. subst (AllByRecursion VisibleSum) (take_all _ _ c.loop-v-test.false) c.loop-v.invariant, λ _. refl)

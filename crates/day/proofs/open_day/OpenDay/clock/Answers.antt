@@ -1,11 +1,10 @@
-use mathlib.Core.List.{List}
-use mathlib.Core.Path.{◌≡◌, ap, sym, subst, ◌∙◌}
+use mathlib.Core.Path.{ap, sym, subst, ◌∙◌}
 use lib.ListN.{length}
 use Rattle.desk.specs.Worlds.{world_of}
 use Rattle.model.proofs.Reached.{reached_clocking}
 use Rattle.model.proofs.Runs.{extends_clock, extends_clock_other}
 use Rattle.model.specs.Calls.{clock}
-use Rattle.model.specs.Days.{Day, Outcome, World}
+use Rattle.model.specs.Days.{Outcome}
 use Rattle.model.specs.Reach.{Reached}
 use Rattle.model.specs.Runs.{Extends}
 use Rattle.model.proofs.Handed.{clocking_length}
@@ -13,11 +12,11 @@ use Rattle.day.proofs.Elsewhere.{extends_over, over}
 use Rattle.day.proofs.open_day.OpenDay.clock.Goals as goal
 
 pub invariant_of-self : goal.invariant_of-self
-invariant_of-self g c = (
-  subst Reached (ap (λ (o : Outcome). o.world.day) c.clock.ensures.outcome)
-      (reached_clocking (g.R.SharingRule.shares c.args.rule.now) (g.met.R.SharingRule.divides c.args.rule.now) c.args.time (world_of c.args.self.now.desk.state c.args.register.now (g.C.Clearing.book c.args.clearing.now)) c.args.self.now.reached),
-  tt,
-)
+invariant_of-self g c = record {
+  reached =
+      subst Reached (ap (λ (o : Outcome). o.world.day) c.clock.ensures.outcome)
+      (reached_clocking (g.R.SharingRule.shares c.args.rule.now) (g.met.R.SharingRule.divides c.args.rule.now) c.args.time (world_of c.args.self.now.desk.state c.args.register.now (g.C.Clearing.book c.args.clearing.now)) c.args.self.now.reached);
+}
 
 pub returns : goal.returns
 returns g c =

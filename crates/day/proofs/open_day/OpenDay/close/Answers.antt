@@ -9,11 +9,11 @@ use Rattle.model.specs.Runs.{Closes}
 use Rattle.day.proofs.open_day.OpenDay.close.Goals as goal
 
 pub invariant_of-result : goal.invariant_of-result
-invariant_of-result g c = (
-  subst ReachedClosed (ap (λ (w : World). w.day) (c.close.ensures.world []))
-      (reached_closing (world_of c.args.self.desk.state [] (g.C.Clearing.book c.args.clearing.now)) c.args.self.reached),
-  tt,
-)
+invariant_of-result g c = record {
+  reached =
+      subst ReachedClosed (ap (λ (w : World). w.day) (c.close.ensures.world []))
+      (reached_closing (world_of c.args.self.desk.state [] (g.C.Clearing.book c.args.clearing.now)) c.args.self.reached);
+}
 
 pub returns : goal.returns
 returns g c = record {

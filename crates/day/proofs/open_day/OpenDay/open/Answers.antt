@@ -4,4 +4,4 @@ use Rattle.model.specs.Reach.{Reached}
 use Rattle.day.proofs.open_day.OpenDay.open.Goals as goal
 
 pub invariant_of-result : goal.invariant_of-result
-invariant_of-result c = (subst Reached (sym c.open-desk.ensures) (reached_opened c.args.settings), tt)
+invariant_of-result c = record { reached = subst Reached (sym c.open-desk.ensures) (reached_opened c.args.settings) }

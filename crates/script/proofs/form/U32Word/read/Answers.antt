@@ -1,5 +1,5 @@
 use Rattle.script.specs.Numbers.{number_not_plain, number_read, number_unread}
-use Rattle.std.proofs.Common.{◌≡◌, true, false, sym, refl, ap, ◌∙◌, subst}
+use Rattle.std.proofs.Common.{ap, ◌∙◌}
 use Rattle.script.specs.Reads.{begins_plain}
 use Rattle.script.proofs.form.U32Word.read.Goals as goal
 
