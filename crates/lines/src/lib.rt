@@ -3,15 +3,19 @@
 
 ghost use Rattle.std.specs.Prelude.{◌≡◌, ◌≤◌, [], IfOk, vec_len, vec_capacity};
 ghost use Rattle.lines.specs.Kept.{with_byte};
+ghost use Rattle.lines.specs.declared.TheConstants.{KEPT};
 
 use std::alloc::{AllocError, Global};
 
-/// The first 4,097 bytes of a line; 4,097 tell that the line is too long.
+/// How many bytes of a line are kept; so many tell that the line is too long.
+const KEPT: usize = 4097;
+
+/// The first `KEPT` bytes of a line.
 #[derive(Drop)]
 pub struct LineBuffer {
     bytes: Vec<u8>,
-    ghost within: { vec_len bytes ≤ 4097 },
-    ghost room: { 4097 ≤ vec_capacity bytes },
+    ghost within: { vec_len bytes ≤ KEPT },
+    ghost room: { KEPT ≤ vec_capacity bytes },
 }
 
 impl LineBuffer {
@@ -19,15 +23,15 @@ impl LineBuffer {
     pub fn new(heap: Global) -> Result<LineBuffer, AllocError>
         ensures { IfOk result (λ b. b.bytes.items ≡ []) }
     {
-        let bytes = Vec::with_capacity(heap, 4097)?;
+        let bytes = Vec::with_capacity(heap, KEPT)?;
         Ok(LineBuffer { bytes })
     }
 
-    /// Takes the line's next byte; past the first 4,097 it is passed over.
+    /// Takes the line's next byte; past the first `KEPT` it is passed over.
     pub fn push(&mut self, byte: u8)
         ensures { self.new.bytes.items ≡ with_byte self.old.bytes.items byte }
     {
-        if self.bytes.len() < 4097 {
+        if self.bytes.len() < KEPT {
             self.bytes.push_reserved(byte);
         }
     }

@@ -1,15 +1,15 @@
 -- The parity level, and that sharing by parity divides q.
 use Rattle.std.specs.Prelude.{◌≡◌, ℕ, zero, suc, ◌+◌, ◌<◌, ◌≤◌, min, Bool, true, false, leb, List, [], ◌∷◌, length, drop, sum, nat_le, slice_index, refl}
-use Rattle.std.proofs.Common.{sym, ap, subst, ◌∙◌, ⊎_elim, arith}
+use Rattle.std.proofs.Common.{ap, ◌∙◌, ⊎_elim, arith}
 use Rattle.std.specs.List.{AllByRecursion}
 use Rattle.std.proofs.lemmas.List.{at_drop_more}
-use Rattle.std.proofs.lemmas.List.Sums.{sum_by-cons}
-use Rattle.std.proofs.lemmas.Bool.{both_ways, cases_Bool, cases_eq, cases_lt, le-leb, leb-true, lt-leb}
+use Rattle.std.proofs.lemmas.List.Sums.{sum_by-cons, sum_by-le-sum_by, sum-map}
+use Rattle.std.proofs.lemmas.Bool.{cases_Bool, le-leb, leb-true}
 use Rattle.std.proofs.lemmas.Bool.Decides.{nat_tests}
 use Rattle.sharing.specs.Request.{Divides, VisibleSum}
 use Rattle.sharing.specs.Parity.{capped, greatest, level, parity_shares}
 use Rattle.sharing.specs.Theorems.{LevelIsGreatest}
-use Rattle.sharing.specs.Parts.{Within, short, below, divides_complete}
+use Rattle.sharing.specs.Parts.{Within, short, below, within_map, divides_complete}
 
 greatest_zero : (test : ℕ → Bool) → greatest test zero ≡ zero
 unfolding greatest
@@ -37,7 +37,7 @@ greatest_passes test (suc n) z =
 
 below_failed : (test : ℕ → Bool) (n u : ℕ) → u ≤ suc n → test u ≡ true → test (suc n) ≡ false → u ≤ n
 below_failed test n u h p e =
-    ⊎_elim (λ same. absurd (both_ways (test (suc n)) e (subst (λ (k : ℕ). test k ≡ true) same p))) (λ other. omega arith) (cases_eq u (suc n))
+    grind arith
 
 greatest_top : (test : ℕ → Bool) (n u : ℕ) → u ≤ n → test u ≡ true → u ≤ greatest test n
 greatest_top test zero u h p = omega arith
@@ -58,13 +58,11 @@ capped_next (v ∷ vs) t =
     omega (arith, one, sum_by-cons (λ x. x) (min v (t + 1)) (capped vs (t + 1)), sum_by-cons (λ x. x) (min v t) (capped vs t), capped_next vs t)
 
 capped_mono : (sums : List ℕ) (t u : ℕ) → t ≤ u → sum (capped sums t) ≤ sum (capped sums u)
-capped_mono [] t u h = omega arith
-capped_mono (v ∷ vs) t u h =
-    omega (arith, sum_by-cons (λ x. x) (min v t) (capped vs t), sum_by-cons (λ x. x) (min v u) (capped vs u), capped_mono vs t u h)
+capped_mono sums t u h =
+    rw (sum-map (λ v. min v t) sums, sum-map (λ v. min v u) sums) (sum_by-le-sum_by (λ v. min v t) (λ v. min v u) sums (λ v. omega arith))
 
 pub capped_le : (sums : List ℕ) (t : ℕ) → sum (capped sums t) ≤ sum sums
-capped_le [] t = omega arith
-capped_le (v ∷ vs) t = omega (arith, sum_by-cons (λ x. x) (min v t) (capped vs t), sum_by-cons (λ x. x) v vs, capped_le vs t)
+capped_le sums t = rw (sum-map (λ v. min v t) sums) (sum_by-le-sum_by (λ v. min v t) (λ v. v) sums (λ v. omega arith))
 
 capped_full : (sums : List ℕ) → AllByRecursion VisibleSum sums → sum (capped sums 1000000) ≡ sum sums
 capped_full [] each = refl
@@ -83,36 +81,30 @@ level_greatest sums q =
 -- a cap that takes more than q is above the level
 level_lt : (sums : List ℕ) (q t : ℕ) → q < sum (capped sums t) → level sums q < t
 level_lt sums q t more =
-    ⊎_elim (λ l. l) (λ l. absurd (omega (arith, (level_greatest sums q).fits, capped_mono sums t (level sums q) l)))
-    (cases_lt (level sums q) t)
+    grind (arith, (level_greatest sums q).fits, capped_mono sums t (level sums q))
 
 -- a cap takes at most q exactly up to the level
 pub level_test : (sums : List ℕ) (q t : ℕ) → t ≤ 1000000 → nat_le (sum (capped sums t)) q ≡ nat_le t (level sums q)
 level_test sums q t h =
-    ⊎_elim
-    (λ more. lt-leb (sum (capped sums t)) q more ∙ sym (lt-leb t (level sums q) (level_lt sums q t more)))
-    (λ fits. le-leb (sum (capped sums t)) q fits ∙ sym (le-leb t (level sums q) ((level_greatest sums q).top t h fits)))
-    (cases_lt q (sum (capped sums t)))
+    let above = level_lt sums q t in
+    let within = (level_greatest sums q).top t h in
+    grind (arith, nat_tests)
 
 pub level_is : (sums : List ℕ) (q t : ℕ) → t ≤ 1000000 → sum (capped sums t) ≤ q → q < sum (capped sums (t + 1)) → level sums q ≡ t
 level_is sums q t h fits more = omega (arith, (level_greatest sums q).top t h fits, level_lt sums q (t + 1) more)
 
-within_capped : (sums : List ℕ) (t : ℕ) → Within sums (capped sums t)
-within_capped [] t = tt
-within_capped (v ∷ vs) t = (omega arith, within_capped vs t)
-
 -- the cap above the level takes more than q
 level_next : (sums : List ℕ) (q : ℕ) → level sums q < 1000000 → q < sum (capped sums (level sums q + 1))
 level_next sums q l =
-    ⊎_elim (λ more. more) (λ fits. absurd (omega (arith, (level_greatest sums q).top (level sums q + 1) (omega arith) fits)))
-    (cases_lt q (sum (capped sums (level sums q + 1))))
+    grind (arith, (level_greatest sums q).top (level sums q + 1))
 
 -- enough sums are above the level to take the rest
 level_high : (sums : List ℕ) (q : ℕ) → AllByRecursion VisibleSum sums → q ≤ sum sums → q ≤ sum (capped sums (level sums q)) + below sums (capped sums (level sums q))
 level_high sums q each covered =
-    ⊎_elim (λ l. omega (arith, level_next sums q l, capped_next sums (level sums q)))
-    (λ l. omega (arith, capped_full sums each, capped_mono sums 1000000 (level sums q) l))
-    (cases_lt (level sums q) 1000000)
+    grind (arith, level_next sums q, capped_next sums (level sums q), capped_full sums each, capped_mono sums 1000000 (level sums q))
+
+within_capped : (sums : List ℕ) (t : ℕ) → Within sums (capped sums t)
+within_capped sums t = within_map (λ v. min v t) (λ v. omega arith) sums
 
 pub parity_divides : (sums : List ℕ) (q : ℕ) → AllByRecursion VisibleSum sums → q ≤ sum sums → Divides sums q (parity_shares sums q)
 parity_divides sums q each covered =

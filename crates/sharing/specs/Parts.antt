@@ -1,18 +1,23 @@
 -- Parts that are at most their sums, and the missing lots handed out among them.
-use Rattle.std.specs.Prelude.{◌≡◌, ℕ, ◌+◌, ◌-◌, ◌<◌, ◌≤◌, cond, List, [], ◌∷◌, ◌++◌, length, take, drop, sum, nat_lt, slice_index, slice_index_or, slice_set}
+use Rattle.std.specs.Prelude.{◌≡◌, ℕ, ◌+◌, ◌-◌, ◌<◌, ◌≤◌, cond, List, [], ◌∷◌, ◌++◌, map, length, take, drop, sum, nat_lt, slice_index, slice_index_or, slice_set}
 use Rattle.std.proofs.Common.{sym, ◌∙◌, arith}
+use Rattle.std.proofs.lemmas.List.{at_drop_all, at_drop_more, drop-set-lt}
+use Rattle.sharing.specs.Written.{written_all, written_more}
 use Rattle.std.specs.List.{AllZip}
 use Rattle.std.proofs.lemmas.List.Elements.{length_all_zip, AllZip-get_or}
-use Rattle.std.proofs.lemmas.List.{at_drop_all, at_drop_more, drop-set-lt}
 use Rattle.std.proofs.lemmas.List.Sums.{sum_by-cons}
 use Rattle.std.proofs.lemmas.Bool.Decides.{nat_tests}
 use Rattle.sharing.specs.Request.{Divides}
 use Rattle.sharing.specs.Missing.{extra, hand_out, complete}
-use Rattle.sharing.specs.Written.{written_all, written_more}
 
 -- a part for each sum, none above its sum
 abbrev pub Within : List ℕ → List ℕ → Type 0
 Within sums parts = AllZip (λ v p. p ≤ v) sums parts
+
+-- a part of each sum that is a function of it
+pub within_map : (f : ℕ → ℕ) → ((v : ℕ) → f v ≤ v) → (sums : List ℕ) → Within sums (map f sums)
+within_map f le [] = tt
+within_map f le (v ∷ vs) = (le v, within_map f le vs)
 
 pub divides_from_within : (sums parts : List ℕ) (q : ℕ) → Within sums parts → sum parts ≡ q → Divides sums q parts
 divides_from_within sums parts q within whole = record {

@@ -6,7 +6,7 @@ use Rattle.std.proofs.lemmas.List.Sums.{sum_by-cons}
 use Rattle.std.proofs.lemmas.Bool.{cond_both, ltb-false}
 use Rattle.sharing.specs.Request.{Divides}
 use Rattle.sharing.specs.ProRata.{quotas, pro_rata_shares}
-use Rattle.sharing.specs.Parts.{Within, short, below, divides_complete}
+use Rattle.sharing.specs.Parts.{Within, short, below, within_map, divides_complete}
 
 -- a proportion is at most its sum
 pub quota_le : (v q whole : ℕ) → q ≤ whole → v * q / whole ≤ v
@@ -15,10 +15,6 @@ quota_le v q whole h = div-le_of_le-mul whole (subst (λ (n : ℕ). v * q ≤ n)
 -- the proportions of a list's part
 abbrev portions : List ℕ → ℕ → ℕ → List ℕ
 portions vs q whole = map (λ v. v * q / whole) vs
-
-within_portions : (vs : List ℕ) (q whole : ℕ) → q ≤ whole → Within vs (portions vs q whole)
-within_portions [] q whole h = tt
-within_portions (v ∷ vs) q whole h = (quota_le v q whole h, within_portions vs q whole h)
 
 -- rounded down, they come to no more than their proportion
 portions_low : (vs : List ℕ) (q whole : ℕ) → sum (portions vs q whole) * whole ≤ sum vs * q
@@ -51,6 +47,9 @@ quotas_low sums q pos =
 quotas_high : (sums : List ℕ) (q : ℕ) → q ≤ sum sums → 0 < sum sums → q ≤ sum (quotas sums q) + below sums (quotas sums q)
 quotas_high sums q h pos =
     le_of_mul-le-mul_right {k = sum sums} (omega (arith, portions_high sums q (sum sums) h pos, mul_comm (sum sums) q)) pos
+
+within_portions : (vs : List ℕ) (q whole : ℕ) → q ≤ whole → Within vs (portions vs q whole)
+within_portions vs q whole h = within_map (λ v. v * q / whole) (λ v. quota_le v q whole h) vs
 
 pub pro_rata_divides : (sums : List ℕ) (q : ℕ) → 1 ≤ q → q ≤ sum sums → Divides sums q (pro_rata_shares sums q)
 pro_rata_divides sums q least covered =

@@ -1,4 +1,4 @@
-// A rule that is chosen at run time.
+//! A rule that is chosen at run time.
 ghost use Rattle.sharing.specs.Chosen.{chosen_shares};
 ghost use Rattle.sharing.specs.declared.chosen.Rule.TheVariants.{Time, ProRata, Parity};
 ghost use Rattle.sharing.specs.InTurn.{time_divides};
@@ -11,7 +11,7 @@ use crate::sharing_rule::SharingRule;
 use crate::time_priority::Time;
 
 /// One of the three rules, chosen at run time.
-#[derive(Clone, Copy)]
+#[derive(Clone, Copy, Debug, PartialEq, Eq)]
 pub enum Rule {
     Time,
     ProRata,

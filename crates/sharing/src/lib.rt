@@ -1,6 +1,7 @@
-// Sharing rules: how lots are divided among the resting orders at one rate.
+//! Sharing rules: how lots are divided among the resting orders at one rate.
 #![tactic(auto)]
 
+mod answer;
 mod chosen;
 mod missing;
 mod parity_level;

@@ -1,8 +1,9 @@
-// The lots that rounding down leaves over.
+//! Parts of a request, and the lots that they leave over.
 ghost use Rattle.std.specs.Prelude.{◌≡◌, ◌+◌, ◌≤◌, max, length, sum};
+ghost use Rattle.std.specs.List.{AllZip};
 ghost use Rattle.sharing.specs.Missing.{complete as completed, extra, hand_out};
 
-use crate::request::total;
+use crate::request::{Request, total};
 
 /// One of the missing lots, if there is one, for a part below its sum.
 fn extra_lot(v: u32, part: u32, missing: u32) -> u32
@@ -13,24 +14,40 @@ fn extra_lot(v: u32, part: u32, missing: u32) -> u32
     if part < v { missing.min(1) } else { 0 }
 }
 
-/// Hands out the missing lots, one each in list order, to the parts below their sums.
-fn hand_out(sums: &[u32], missing: u32, parts: &mut [u32])
-    requires { length parts.old ≡ length sums.now }
-    ensures { parts.new ≡ hand_out sums.now parts.old missing }
-{
-    let mut left = missing;
-    for (i, &v) in sums.iter().enumerate() {
-        let more = extra_lot(v, parts[i], left);
-        parts[i] += more;
-        left -= more;
+impl Request<'_> {
+    /// Writes the part of each sum.
+    pub(crate) fn write_parts<F: Fn(u32) -> u32>(&self, part_of: F, out: &mut [u32])
+        requires can { F.IsAlwaysCallable part_of }
+        requires long { length out.old ≡ length self.now.sums.now }
+        ensures { AllZip (F.post part_of) self.now.sums.now out.new }
+    {
+        out.copy_from_slice(self.sums);
+        for part in out.iter_mut() {
+            *part = part_of(*part);
+        }
     }
-}
 
-/// Hands out the lots that the parts lack to `q`.
-pub(crate) fn complete(sums: &[u32], q: u32, parts: &mut [u32])
-    requires { (length parts.old ≡ length sums.now) × (sum parts.old ≤ q) }
-    ensures { parts.new ≡ completed sums.now parts.old q }
-{
-    let missing = q - total(parts);
-    hand_out(sums, missing, parts);
+    /// Hands out the missing lots, one each in list order, to the parts below their sums.
+    fn hand_out(&self, missing: u32, parts: &mut [u32])
+        requires { length parts.old ≡ length self.now.sums.now }
+        ensures { parts.new ≡ hand_out self.now.sums.now parts.old missing }
+    {
+        let mut left = missing;
+        // With `iter_mut().zip(..)` the proof did not close: what it wrote is not known after the loop.
+        for (i, part) in parts.iter_mut().enumerate() {
+            let more = extra_lot(self.sums[i], *part, left);
+            *part += more;
+            left -= more;
+        }
+    }
+
+    /// Hands out the lots that the parts lack to those asked for.
+    pub(crate) fn complete(&self, parts: &mut [u32])
+        requires long { length parts.old ≡ length self.now.sums.now }
+        requires low { sum parts.old ≤ self.now.lots }
+        ensures { parts.new ≡ completed self.now.sums.now parts.old self.now.lots }
+    {
+        let missing = self.lots - total(parts);
+        self.hand_out(missing, parts);
+    }
 }
