@@ -1,9 +1,9 @@
 //! A cap: a layer over any clearing, with a cap and a count of its own for each participant.
 #![tactic(auto)]
 
-ghost use Rattle.std.specs.Prelude.{◌≡◌, cond};
+ghost use Rattle.std.specs.Prelude.{◌≡◌, if◌then◌else◌};
 ghost use Rattle.std.specs.Borrow.{sem, follows};
-ghost use Rattle.clearing.specs.Book.{Book, can_reserve, reserved, to_held, can_release, released, to_free, empty, total, settable, limited};
+ghost use Rattle.clearing.specs.Book.{can_reserve, reserved, to_held, can_release, released, to_free, empty, total, settable, limited};
 ghost use Rattle.clearing.specs.Refused.{refused_with, refused_unless};
 ghost use Rattle.clearing.specs.Makeup.{taken, returned};
 ghost use Rattle.caps.specs.Caps.{count_book, cap_book, cap_makeup};
@@ -94,9 +94,9 @@ impl<C: Clearing> Clearing for Cap<C> {
     fn reserve(&mut self, participant: u32, lots: u32) -> bool
         ensures answer { result ≡ can_reserve (cap_book C.Clearing.book self.old) participant lots }
         ensures after { cap_book C.Clearing.book self.new ≡ reserved (cap_book C.Clearing.book self.old) participant lots }
-        ensures inside { cap_makeup C.Clearing.makeup self.new ≡ cond (can_reserve (cap_book C.Clearing.book self.old) participant lots) (taken (cap_makeup C.Clearing.makeup self.old) participant lots) (cap_makeup C.Clearing.makeup self.old) }
-        ensures own { count_book self.new ≡ cond (can_reserve (cap_book C.Clearing.book self.old) participant lots) (to_held (count_book self.old) participant lots) (count_book self.old) }
-        ensures below { C.Clearing.book self.new.below ≡ cond (can_reserve (cap_book C.Clearing.book self.old) participant lots) (to_held (C.Clearing.book self.old.below) participant lots) (C.Clearing.book self.old.below) }
+        ensures inside { cap_makeup C.Clearing.makeup self.new ≡ (if can_reserve (cap_book C.Clearing.book self.old) participant lots then taken (cap_makeup C.Clearing.makeup self.old) participant lots else cap_makeup C.Clearing.makeup self.old) }
+        ensures own { count_book self.new ≡ (if can_reserve (cap_book C.Clearing.book self.old) participant lots then to_held (count_book self.old) participant lots else count_book self.old) }
+        ensures below { C.Clearing.book self.new.below ≡ (if can_reserve (cap_book C.Clearing.book self.old) participant lots then to_held (C.Clearing.book self.old.below) participant lots else C.Clearing.book self.old.below) }
     {
         if lots > self.free(participant) {
             return false;
@@ -107,9 +107,9 @@ impl<C: Clearing> Clearing for Cap<C> {
     fn release(&mut self, participant: u32, lots: u32) -> bool
         ensures answer { result ≡ can_release (cap_book C.Clearing.book self.old) participant lots }
         ensures after { cap_book C.Clearing.book self.new ≡ released (cap_book C.Clearing.book self.old) participant lots }
-        ensures inside { cap_makeup C.Clearing.makeup self.new ≡ cond (can_release (cap_book C.Clearing.book self.old) participant lots) (returned (cap_makeup C.Clearing.makeup self.old) participant lots) (cap_makeup C.Clearing.makeup self.old) }
-        ensures own { count_book self.new ≡ cond (can_release (cap_book C.Clearing.book self.old) participant lots) (to_free (count_book self.old) participant lots) (count_book self.old) }
-        ensures below { C.Clearing.book self.new.below ≡ cond (can_release (cap_book C.Clearing.book self.old) participant lots) (to_free (C.Clearing.book self.old.below) participant lots) (C.Clearing.book self.old.below) }
+        ensures inside { cap_makeup C.Clearing.makeup self.new ≡ (if can_release (cap_book C.Clearing.book self.old) participant lots then returned (cap_makeup C.Clearing.makeup self.old) participant lots else cap_makeup C.Clearing.makeup self.old) }
+        ensures own { count_book self.new ≡ (if can_release (cap_book C.Clearing.book self.old) participant lots then to_free (count_book self.old) participant lots else count_book self.old) }
+        ensures below { C.Clearing.book self.new.below ≡ (if can_release (cap_book C.Clearing.book self.old) participant lots then to_free (C.Clearing.book self.old.below) participant lots else C.Clearing.book self.old.below) }
     {
         if lots > self.held(participant) {
             return false;

@@ -1,49 +1,51 @@
 -- Lots taken from two pots and put back into them.
-use Rattle.std.proofs.Common.{◌≡◌, ℕ, ◌+◌, ◌-◌, ◌≤◌, min, Bool, true, false, cond, eqb, refl, arith}
-use Rattle.clearing.specs.Book.{total, put, to_held, to_free}
-use Rattle.clearing.specs.Pots.{Pots, joint, drawn, refilled}
-use Rattle.clearing.specs.TwoPots.{with_purse}
+use Rattle.std.proofs.Common.{◌≡◌, ℕ, ◌+◌, ◌-◌, ◌≤◌, min, cond, ltb, leb, arith}
+use Rattle.std.proofs.lemmas.Bool.{leb-true, and_parts}
+use Rattle.clearing.specs.Book.{can_reserve, can_release}
+use Rattle.clearing.specs.Lines.{line_free}
+use Rattle.clearing.specs.Pots.{joint, drawn, refilled}
+use Rattle.clearing.specs.Purses.{purse_free, purse_held, purse_holding, purse_letting_go}
+use Rattle.clearing.specs.Seats.{seated}
+use Rattle.clearing.specs.TwoPots.{purse_pots}
 use Rattle.clearing.specs.declared.purse.Purse.{Purse}
+use Rattle.clearing.proofs.Choices.{ap_cond}
+use Rattle.clearing.proofs.Seating.{book_of-seated}
 
-module _ (t : Pots) (p n : ℕ) (purse : Purse) (money : purse.money.limit ≡ total t.money p) (securities : purse.securities.limit ≡ total t.securities p) where
+module _ (f : ℕ → Purse) (p n : ℕ) where
   -- a purse from which n lots were taken
-  pub drawn_is : purse.money.held ≡ t.money.held p + min n (t.money.free p) → purse.securities.held ≡ t.securities.held p + (n - t.money.free p) → with_purse t p purse ≡ drawn t p n
-  drawn_is b d =
-      let a : purse.money.limit - purse.money.held ≡ t.money.free p - min n (t.money.free p) = omega arith in
-      let c : purse.securities.limit - purse.securities.held ≡ t.securities.free p - (n - t.money.free p) =
-      omega arith
-      in
+  purse_pots-drawn : n ≤ purse_free (f p) → purse_pots (seated f p (purse_holding (f p) n)) ≡ drawn (purse_pots f) p n
+  purse_pots-drawn enough =
+      let money = (f p).money in
+      let securities = (f p).securities in
+      let in_money = money.within.0 in
+      let in_securities = securities.within.0 in
+      let after = purse_holding (f p) n in
+      let from_money = min n (line_free money) in
+      let lacks = n - line_free money in
       λ i. record {
-        money = record { free = put t.money.free p (a i); held = put t.money.held p (b i) };
-        securities = record { free = put t.securities.free p (c i); held = put t.securities.held p (d i) };
+        money = book_of-seated (λ u. line_free u.money) (λ u. u.money.held) f p after (line_free money - from_money) (money.held + from_money) (omega arith) (omega arith) i;
+        securities = book_of-seated (λ u. line_free u.securities) (λ u. u.securities.held) f p after (line_free securities - lacks) (securities.held + lacks) (omega arith) (omega arith) i;
       }
 
   -- a purse into which n lots were put back
-  pub refilled_is : n ≤ (joint t).held p → purse.money.held ≡ t.money.held p - (n - t.securities.held p) → purse.securities.held ≡ t.securities.held p - min n (t.securities.held p) → with_purse t p purse ≡ refilled t p n
-  refilled_is enough b d =
-      let a : purse.money.limit - purse.money.held ≡ t.money.free p + (n - t.securities.held p) = omega arith in
-      let c : purse.securities.limit - purse.securities.held ≡ t.securities.free p + min n (t.securities.held p) =
-      omega arith
-      in
+  purse_pots-refilled : n ≤ purse_held (f p) → purse_pots (seated f p (purse_letting_go (f p) n)) ≡ refilled (purse_pots f) p n
+  purse_pots-refilled enough =
+      let money = (f p).money in
+      let securities = (f p).securities in
+      let in_money = money.within.0 in
+      let in_securities = securities.within.0 in
+      let after = purse_letting_go (f p) n in
+      let to_securities = min n securities.held in
+      let over = n - securities.held in
       λ i. record {
-        money = record { free = put t.money.free p (a i); held = put t.money.held p (b i) };
-        securities = record { free = put t.securities.free p (c i); held = put t.securities.held p (d i) };
+        money = book_of-seated (λ u. line_free u.money) (λ u. u.money.held) f p after (line_free money + over) (money.held - over) (omega arith) (omega arith) i;
+        securities = book_of-seated (λ u. line_free u.securities) (λ u. u.securities.held) f p after (line_free securities + to_securities) (securities.held - to_securities) (omega arith) (omega arith) i;
       }
 
-both : (b : Bool) (x y z u v : ℕ) → x + y ≡ z → cond b x u + cond b y v ≡ cond b z (u + v)
-both true x y z u v e = e
-both false x y z u v e = refl
+  -- the pots after n lots were asked for
+  pub purse_pots-reserved : let can = can_reserve (joint (purse_pots f)) p n in purse_pots (cond can (seated f p (purse_holding (f p) n)) f) ≡ cond can (drawn (purse_pots f) p n) (purse_pots f)
+  purse_pots-reserved = ap_cond purse_pots _ f _ (can_reserve (joint (purse_pots f)) p n) (λ yes. purse_pots-drawn (leb-true n (purse_free (f p)) (and_parts (ltb p 64) (leb n (purse_free (f p))) yes).1))
 
-pub joint_drawn : (t : Pots) (p n : ℕ) → n ≤ (joint t).free p → joint (drawn t p n) ≡ to_held (joint t) p n
-joint_drawn t p n enough =
-    λ i. record {
-      free = λ q. both (eqb q p) (t.money.free p - min n (t.money.free p)) (t.securities.free p - (n - t.money.free p)) ((joint t).free p - n) (t.money.free q) (t.securities.free q) (omega arith) i;
-      held = λ q. both (eqb q p) (t.money.held p + min n (t.money.free p)) (t.securities.held p + (n - t.money.free p)) ((joint t).held p + n) (t.money.held q) (t.securities.held q) (omega arith) i;
-    }
-
-pub joint_refilled : (t : Pots) (p n : ℕ) → n ≤ (joint t).held p → joint (refilled t p n) ≡ to_free (joint t) p n
-joint_refilled t p n enough =
-    λ i. record {
-      free = λ q. both (eqb q p) (t.money.free p + (n - t.securities.held p)) (t.securities.free p + min n (t.securities.held p)) ((joint t).free p + n) (t.money.free q) (t.securities.free q) (omega arith) i;
-      held = λ q. both (eqb q p) (t.money.held p - (n - t.securities.held p)) (t.securities.held p - min n (t.securities.held p)) ((joint t).held p - n) (t.money.held q) (t.securities.held q) (omega arith) i;
-    }
+  -- the pots after n lots were to be put back
+  pub purse_pots-released : let can = can_release (joint (purse_pots f)) p n in purse_pots (cond can (seated f p (purse_letting_go (f p) n)) f) ≡ cond can (refilled (purse_pots f) p n) (purse_pots f)
+  purse_pots-released = ap_cond purse_pots _ f _ (can_release (joint (purse_pots f)) p n) (λ yes. purse_pots-refilled (leb-true n (purse_held (f p)) (and_parts (ltb p 64) (leb n (purse_held (f p))) yes).1))

@@ -1,26 +1,52 @@
--- An array with an element for each participant, read by one of the element's figures.
-use Rattle.std.proofs.Common.{◌≡◌, ℕ, ◌<◌, Bool, true, false, cond, eqb, ltb, List, length, get_or, set, replicate, refl, ap, arith, get_or-set_other, get_or-set_same}
-use lib.ListN.{get_or-replicate}
-use Rattle.std.proofs.lemmas.Bool.{ltb-true, ltb-false, eqb-true, eqb-false}
-use Rattle.clearing.specs.Book.{put}
-use Rattle.clearing.specs.Seats.{seat}
+-- One element for each participant: the same for all, or one of them replaced.
+use Rattle.std.proofs.Common.{◌≡◌, ℕ, ◌+◌, ◌-◌, ◌≤◌, Bool, true, false, cond, eqb, ltb, get_or, replicate, refl, ap, sym, ◌∙◌, arith, rules}
+use Rattle.std.proofs.lemmas.Bool.{ltb-true, eqb-true}
+use Rattle.std.proofs.lemmas.List.{get_or-replicate}
+use Rattle.clearing.specs.Accounts.{book_of}
+use Rattle.clearing.specs.Book.{put, with_free, can_reserve, reserved, can_release, released}
+use Rattle.clearing.specs.Seats.{seat, seated}
+use Rattle.clearing.proofs.Choices.{ap_cond}
 
-module _ {X : Type 0} (none : X) (figure : X → ℕ) where
-  same_in : (n : ℕ) → n ≡ 64 → figure none ≡ 0 → (x : X) (p : ℕ) (b : Bool) → ltb p 64 ≡ b → figure (cond b (get_or (replicate n x) p none) none) ≡ cond b (figure x) 0
-  same_in n all absent x p true e = ap figure (get_or-replicate n p x none (omega (arith, ltb-true p 64 e)))
-  same_in n all absent x p false e = absent
+module _ {X : Type 0} where
+  same_in : (n : ℕ) → n ≡ 64 → (x : X) (p : ℕ) (b : Bool) → ltb p 64 ≡ b → cond b (get_or (replicate n x) p x) x ≡ x
+  same_in n all x p true e = get_or-replicate n p x x (omega (arith, ltb-true p 64 e))
+  same_in n all x p false e = refl
 
-  -- x in every seat
-  pub same_at : (n : ℕ) → n ≡ 64 → figure none ≡ 0 → (x : X) (p : ℕ) → figure (seat none (replicate n x) p) ≡ cond (ltb p 64) (figure x) 0
-  same_at n all absent x p = same_in n all absent x p (ltb p 64) refl
+  -- x in every seat, and for strangers too
+  pub seat-replicate : (n : ℕ) → n ≡ 64 → (x : X) → seat x (replicate n x) ≡ (λ p. x)
+  seat-replicate n all x = λ i p. same_in n all x p (ltb p 64) refl i
 
-  put_in : (xs : List X) → length xs ≡ 64 → (p : ℕ) → p < 64 → (x : X) (q : ℕ) (s t : Bool) → ltb q 64 ≡ s → eqb q p ≡ t → figure (cond s (get_or (set xs p x) q none) none) ≡ cond t (figure x) (figure (cond s (get_or xs q none) none))
-  put_in xs long p sits x q true true e f =
-      ap figure (rw (eqb-true q p f) (get_or-set_same xs p x none (omega arith)))
-  put_in xs long p sits x q true false e f = ap figure (get_or-set_other xs p q x none (eqb-false q p f))
-  put_in xs long p sits x q false true e f = absurd (omega (arith, ltb-false q 64 e, eqb-true q p f))
-  put_in xs long p sits x q false false e f = refl
+  same_figure : (figure : X → ℕ) (f : ℕ → X) (p q n : ℕ) → figure (f p) ≡ n → (b : Bool) → eqb q p ≡ b → cond b n (figure (f q)) ≡ figure (f q)
+  same_figure figure f p q n e true is = sym e ∙ ap (λ k. figure (f k)) (sym (eqb-true q p is))
+  same_figure figure f p q n e false is = refl
 
-  -- x put into participant p's seat
-  pub put_at : (xs : List X) → length xs ≡ 64 → (p : ℕ) → p < 64 → (x : X) (q : ℕ) → figure (seat none (set xs p x) q) ≡ put (λ k. figure (seat none xs k)) p (figure x) q
-  put_at xs long p sits x q = put_in xs long p sits x q (ltb q 64) (eqb q p) refl refl
+  module _ (free held : X → ℕ) (f : ℕ → X) (p : ℕ) (x : X) where
+    -- the book after participant p's element was replaced by one with m free and n held
+    pub book_of-seated : (m n : ℕ) → free x ≡ m → held x ≡ n → book_of free held (seated f p x) ≡ record { free = put (λ q. free (f q)) p m; held = put (λ q. held (f q)) p n }
+    book_of-seated m n is_free is_held =
+        λ i. record {
+          free = λ q. ap_cond free x (f q) m (eqb q p) (λ _. is_free) i;
+          held = λ q. ap_cond held x (f q) n (eqb q p) (λ _. is_held) i;
+        }
+
+    -- the book after an element with nothing held was replaced by one with m free and nothing held
+    pub book_of-opened : (m : ℕ) → free x ≡ m → held x ≡ 0 → held (f p) ≡ 0 → book_of free held (seated f p x) ≡ with_free (book_of free held f) p m
+    book_of-opened m is_free is_held was_held =
+        book_of-seated m 0 is_free is_held
+        ∙ (λ i. record {
+          free = put (λ q. free (f q)) p m;
+          held = λ q. same_figure held f p q 0 was_held (eqb q p) refl i;
+        })
+
+    module _ (n : ℕ) (sits : p ≤ 63) where
+      -- the book after n lots that were free are held
+      pub book_of-reserved : n ≤ free (f p) → free x ≡ free (f p) - n → held x ≡ held (f p) + n → book_of free held (seated f p x) ≡ reserved (book_of free held f) p n
+      book_of-reserved enough is_free is_held =
+          let can : can_reserve (book_of free held f) p n ≡ true = search rules in
+          rw can (book_of-seated _ _ is_free is_held)
+
+      -- the book after n lots that were held are free
+      pub book_of-released : n ≤ held (f p) → free x ≡ free (f p) + n → held x ≡ held (f p) - n → book_of free held (seated f p x) ≡ released (book_of free held f) p n
+      book_of-released enough is_free is_held =
+          let can : can_release (book_of free held f) p n ≡ true = search rules in
+          rw can (book_of-seated _ _ is_free is_held)

@@ -3,5 +3,8 @@ pub mod Pots
 pub mod Makeup
 pub mod Refused
 pub mod Seats
+pub mod Accounts
+pub mod Lines
+pub mod Purses
 pub mod Sheet
 pub mod TwoPots

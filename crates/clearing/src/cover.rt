@@ -5,7 +5,7 @@ ghost use Rattle.clearing.specs.Makeup.{Makeup, shown, taken, returned};
 ghost use Rattle.clearing.specs.Refused.{number_of};
 
 /// Why a setter changes nothing.
-#[derive(Clone, Copy, Debug, PartialEq)]
+#[derive(Clone, Copy, Debug, PartialEq, Eq)]
 pub enum Refusal {
     /// No such participant, a figure above 1,000,000,000, or lots held.
     FigureNotSettable,
@@ -16,6 +16,7 @@ impl Refusal {
     pub fn number(self) -> u32
         ensures { result ≡ number_of self }
     {
+        // The table of numbers is the rule itself.
         match self {
             Refusal::FigureNotSettable => 19,
         }
@@ -39,6 +40,7 @@ pub trait Clearing {
         ensures { result ≡ (book self.now).held participant };
 
     /// Moves lots from free to held, if that many are free.
+    // A yes or no, and no Result, here and in `release`: a no has one cause and tells nothing else.
     fn reserve(&mut self, participant: u32, lots: u32) -> bool
         ensures answer { result ≡ can_reserve (book self.old) participant lots }
         ensures after { book self.new ≡ reserved (book self.old) participant lots }

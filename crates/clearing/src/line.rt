@@ -1,8 +1,13 @@
 //! One participant's limit and what is held of it.
-ghost use Rattle.std.specs.Prelude.{◌≡◌, ◌+◌, ◌-◌, ◌≤◌};
+ghost use Rattle.std.specs.Prelude.{◌≡◌, ◌≤◌, is_ok, IfOk, nat_le};
+
+use crate::cover::Refusal;
+
+/// The most lots that a participant can be given.
+pub(crate) const MOST: u32 = 1_000_000_000;
 
 /// A limit and the lots held of it.
-#[derive(Clone, Copy)]
+#[derive(Clone, Copy, Debug, PartialEq, Eq)]
 pub(crate) struct Line {
     pub(crate) limit: u32,
     pub(crate) held: u32,
@@ -10,34 +15,14 @@ pub(crate) struct Line {
 }
 
 impl Line {
-    /// What is free of the limit.
-    pub(crate) fn free(self) -> u32
-        ensures { result ≡ self.limit - self.held }
+    /// A line of which nothing is held, if the limit is at most 1,000,000,000.
+    pub(crate) fn new(limit: u32) -> Result<Line, Refusal>
+        ensures fits { is_ok result ≡ nat_le limit 1000000000 }
+        ensures line { IfOk result (λ line. (line.limit ≡ limit) × (line.held ≡ 0)) }
     {
-        self.limit - self.held
-    }
-
-    /// The line with more lots held.
-    pub(crate) fn hold(self, lots: u32) -> Line
-        requires { lots ≤ self.limit - self.held }
-        ensures limit { result.limit ≡ self.limit }
-        ensures held { result.held ≡ self.held + lots }
-    {
-        Line {
-            limit: self.limit,
-            held: self.held + lots,
+        if limit > MOST {
+            return Err(Refusal::FigureNotSettable);
         }
-    }
-
-    /// The line with fewer lots held.
-    pub(crate) fn let_go(self, lots: u32) -> Line
-        requires { lots ≤ self.held }
-        ensures limit { result.limit ≡ self.limit }
-        ensures held { result.held ≡ self.held - lots }
-    {
-        Line {
-            limit: self.limit,
-            held: self.held - lots,
-        }
+        Ok(Line { limit, held: 0 })
     }
 }

@@ -1,127 +1,59 @@
 //! The two pots: reserving takes money first, releasing refills securities first.
-ghost use Rattle.std.specs.Prelude.{◌≡◌, ◌≤◌, true, if◌then◌else◌};
-ghost use Rattle.clearing.specs.Book.{Book, can_reserve, reserved, to_held, can_release, released, to_free, total};
+ghost use Rattle.std.specs.Prelude.{◌≡◌, if◌then◌else◌};
+ghost use Rattle.clearing.specs.Book.{can_reserve, reserved, can_release, released};
 ghost use Rattle.clearing.specs.Makeup.{pots};
 ghost use Rattle.clearing.specs.Pots.{empty_pots, joint, drawn, refilled, pots_settable, pots_set};
 ghost use Rattle.clearing.specs.Refused.{refused_with, refused_unless};
-ghost use Rattle.clearing.specs.TwoPots.{pots_of, uniform_pots, with_purse};
-ghost use borrow.Author.Rules.{rules};
+ghost use Rattle.clearing.specs.TwoPots.{pots_of};
+ghost use Rattle.std.proofs.Common.{rules};
 
+use crate::accounts::{Account, Accounts};
 use crate::cover::{Clearing, Refusal};
-use crate::line::Line;
 use crate::purse::Purse;
 
 /// A pot of money and a pot of securities for each participant; free is what both have left.
 #[derive(Drop)]
 pub struct TwoPots {
-    purses: [Purse; 64],
+    purses: Accounts<Purse>,
 }
 
+#[tactic(auto, unfolding(crate::specs::TwoPots::pots_of))]
 impl TwoPots {
     /// Two empty pots for everyone.
     pub fn new() -> TwoPots
         ensures { pots_of result ≡ empty_pots }
     {
-        let empty = Line { limit: 0, held: 0 };
-        TwoPots::with_purse(Purse {
-            money: empty,
-            securities: empty,
-        })
+        TwoPots {
+            purses: Accounts::new(),
+        }
     }
 
     /// What the participant's money pot has left.
     pub fn money(&self, participant: u32) -> u32
         ensures { result ≡ (pots_of self.now).money.free participant }
     {
-        self.purse(participant).money.free()
+        self.purses.at(participant).money.free()
     }
 
     /// What the participant's securities pot has left.
     pub fn securities(&self, participant: u32) -> u32
         ensures { result ≡ (pots_of self.now).securities.free participant }
     {
-        self.purse(participant).securities.free()
+        self.purses.at(participant).securities.free()
     }
 
     /// Sets a participant's two pots while he holds nothing.
+    // Two figures, and no struct of them: a script's line has them apart, and so has the answer of what is left.
     pub fn set_pots(&mut self, participant: u32, money: u32, securities: u32) -> Result<(), Refusal>
         ensures answer { refused_with result ≡ refused_unless (pots_settable (pots_of self.old) participant money securities) }
         ensures after { pots_of self.new ≡ pots_set (pots_of self.old) participant money securities }
     {
-        if participant > 63
-            || money > 1_000_000_000
-            || securities > 1_000_000_000 - money
-            || self.held(participant) > 0
-        {
-            return Err(Refusal::FigureNotSettable);
-        }
-        let money = Line {
-            limit: money,
-            held: 0,
-        };
-        let securities = Line {
-            limit: securities,
-            held: 0,
-        };
-        self.keep(participant, Purse { money, securities });
-        Ok(())
-    }
-
-    /// The same purse for every participant.
-    fn with_purse(purse: Purse) -> TwoPots
-        ensures { pots_of result ≡ uniform_pots purse }
-    {
-        TwoPots {
-            purses: [purse; 64],
-        }
-    }
-
-    /// The participant's purse; an empty one above participant 63.
-    fn purse(&self, participant: u32) -> Purse
-        ensures money { result.money.limit ≡ total (pots_of self.now).money participant }
-        ensures money_taken { result.money.held ≡ (pots_of self.now).money.held participant }
-        ensures securities { result.securities.limit ≡ total (pots_of self.now).securities participant }
-        ensures securities_taken { result.securities.held ≡ (pots_of self.now).securities.held participant }
-    {
-        if participant > 63 {
-            let none = Line { limit: 0, held: 0 };
-            return Purse {
-                money: none,
-                securities: none,
-            };
-        }
-        self.purses[participant as usize]
-    }
-
-    /// Puts a purse in the place of the participant's.
-    fn keep(&mut self, participant: u32, purse: Purse)
-        requires { participant ≤ 63 }
-        ensures { pots_of self.new ≡ with_purse (pots_of self.old) participant purse }
-    {
-        self.purses[participant as usize] = purse;
-    }
-
-    /// Takes lots that the participant has left.
-    fn take(&mut self, participant: u32, lots: u32)
-        requires { can_reserve (joint (pots_of self.old)) participant lots ≡ true }
-        ensures pots { pots_of self.new ≡ drawn (pots_of self.old) participant lots }
-        ensures book { joint (pots_of self.new) ≡ to_held (joint (pots_of self.old)) participant lots }
-    {
-        let purse = self.purse(participant).draw(lots);
-        self.keep(participant, purse);
-    }
-
-    /// Puts back lots that were taken for the participant.
-    fn put_back(&mut self, participant: u32, lots: u32)
-        requires { can_release (joint (pots_of self.old)) participant lots ≡ true }
-        ensures pots { pots_of self.new ≡ refilled (pots_of self.old) participant lots }
-        ensures book { joint (pots_of self.new) ≡ to_free (joint (pots_of self.old)) participant lots }
-    {
-        let purse = self.purse(participant).refill(lots);
-        self.keep(participant, purse);
+        self.purses
+            .open(participant, Purse::new(money, securities)?)
     }
 }
 
+#[tactic(auto, unfolding(crate::specs::TwoPots::pots_of))]
 impl Clearing for TwoPots {
     ghost book = { λ t. joint (pots_of t) };
 
@@ -136,13 +68,11 @@ impl Clearing for TwoPots {
     ghost strangers_held = { unfold pots_of in Prim.search rules };
 
     fn free(&self, participant: u32) -> u32 {
-        let purse = self.purse(participant);
-        purse.money.free() + purse.securities.free()
+        self.purses.free(participant)
     }
 
     fn held(&self, participant: u32) -> u32 {
-        let purse = self.purse(participant);
-        purse.money.held + purse.securities.held
+        self.purses.held(participant)
     }
 
     fn reserve(&mut self, participant: u32, lots: u32) -> bool
@@ -151,11 +81,7 @@ impl Clearing for TwoPots {
         ensures inside { pots (pots_of self.new) ≡ (if can_reserve (joint (pots_of self.old)) participant lots then pots (drawn (pots_of self.old) participant lots) else pots (pots_of self.old)) }
         ensures pots { pots_of self.new ≡ (if can_reserve (joint (pots_of self.old)) participant lots then drawn (pots_of self.old) participant lots else pots_of self.old) }
     {
-        if participant > 63 || lots > self.free(participant) {
-            return false;
-        }
-        self.take(participant, lots);
-        true
+        self.purses.reserve(participant, lots)
     }
 
     fn release(&mut self, participant: u32, lots: u32) -> bool
@@ -164,10 +90,6 @@ impl Clearing for TwoPots {
         ensures inside { pots (pots_of self.new) ≡ (if can_release (joint (pots_of self.old)) participant lots then pots (refilled (pots_of self.old) participant lots) else pots (pots_of self.old)) }
         ensures pots { pots_of self.new ≡ (if can_release (joint (pots_of self.old)) participant lots then refilled (pots_of self.old) participant lots else pots_of self.old) }
     {
-        if participant > 63 || lots > self.held(participant) {
-            return false;
-        }
-        self.put_back(participant, lots);
-        true
+        self.purses.release(participant, lots)
     }
 }

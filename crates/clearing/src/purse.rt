@@ -1,10 +1,11 @@
 //! One participant's two pots.
-ghost use Rattle.std.specs.Prelude.{◌≡◌, ◌+◌, ◌-◌, ◌≤◌, min};
+ghost use Rattle.std.specs.Prelude.{◌≡◌, ◌+◌, ◌≤◌, is_ok, IfOk, nat_le};
 
-use crate::line::Line;
+use crate::cover::Refusal;
+use crate::line::{Line, MOST};
 
 /// What each pot was given is its limit, what was taken from it is held.
-#[derive(Clone, Copy)]
+#[derive(Clone, Copy, Debug, PartialEq, Eq)]
 pub(crate) struct Purse {
     pub(crate) money: Line,
     pub(crate) securities: Line,
@@ -12,33 +13,16 @@ pub(crate) struct Purse {
 }
 
 impl Purse {
-    /// Takes lots: money first, and what it lacks from the securities.
-    pub(crate) fn draw(self, lots: u32) -> Purse
-        requires { lots ≤ self.money.limit - self.money.held + (self.securities.limit - self.securities.held) }
-        ensures money { result.money.limit ≡ self.money.limit }
-        ensures money_taken { result.money.held ≡ self.money.held + min lots (self.money.limit - self.money.held) }
-        ensures securities { result.securities.limit ≡ self.securities.limit }
-        ensures securities_taken { result.securities.held ≡ self.securities.held + (lots - (self.money.limit - self.money.held)) }
+    /// Two pots from which nothing is taken, if they are given at most 1,000,000,000 together.
+    pub(crate) fn new(money: u32, securities: u32) -> Result<Purse, Refusal>
+        ensures fits { is_ok result ≡ nat_le (money + securities) 1000000000 }
+        ensures money { IfOk result (λ purse. (purse.money.limit ≡ money) × (purse.money.held ≡ 0)) }
+        ensures securities { IfOk result (λ purse. (purse.securities.limit ≡ securities) × (purse.securities.held ≡ 0)) }
     {
-        let from_money = lots.min(self.money.free());
-        Purse {
-            money: self.money.hold(from_money),
-            securities: self.securities.hold(lots - from_money),
+        let (money, securities) = (Line::new(money)?, Line::new(securities)?);
+        if money.limit + securities.limit > MOST {
+            return Err(Refusal::FigureNotSettable);
         }
-    }
-
-    /// Puts lots back: securities first, and what is over into the money.
-    pub(crate) fn refill(self, lots: u32) -> Purse
-        requires { lots ≤ self.money.held + self.securities.held }
-        ensures money { result.money.limit ≡ self.money.limit }
-        ensures money_taken { result.money.held ≡ self.money.held - (lots - self.securities.held) }
-        ensures securities { result.securities.limit ≡ self.securities.limit }
-        ensures securities_taken { result.securities.held ≡ self.securities.held - min lots self.securities.held }
-    {
-        let to_securities = lots.min(self.securities.held);
-        Purse {
-            money: self.money.let_go(lots - to_securities),
-            securities: self.securities.let_go(to_securities),
-        }
+        Ok(Purse { money, securities })
     }
 }

@@ -1,13 +1,13 @@
 -- The parts of a make-up by name: the base's limit or pots, and the caps by layer.
-use Rattle.std.specs.Prelude.{ℕ, zero, suc, ◌+◌, cond, Some, None, Option, ◌==◌}
+use Rattle.std.specs.Prelude.{ℕ, zero, suc, ◌+◌, cond, Some, None, Ok, Err, Option, Result, ◌==◌}
 use Rattle.clearing.specs.Book.{empty, settable, limited}
 use Rattle.clearing.specs.Pots.{empty_pots, pots_settable, pots_set}
 use Rattle.clearing.specs.Makeup.{Makeup, plain, pots, capped}
 use Rattle.clearing.specs.Refused.{number_of, refused_unless}
 use Rattle.pile.specs.declared.base.BaseKind.{BaseKind}
 use Rattle.pile.specs.declared.base.BaseKind.TheVariants as kind
-use Rattle.pile.specs.declared.base.SetAnswer.{SetAnswer}
-use Rattle.pile.specs.declared.base.SetAnswer.TheVariants.{Done, Refused, NoSuchPart}
+use Rattle.pile.specs.declared.set_error.SetError.{SetError}
+use Rattle.pile.specs.declared.set_error.SetError.TheVariants.{Refused, NoSuchPart}
 
 -- what a setter tells: done, refused with a number, or no such part
 pub data Told : Type 0 where
@@ -16,10 +16,10 @@ pub data Told : Type 0 where
   no_such_part : Told
 
 -- what an answer tells
-abbrev pub told_by : SetAnswer → Told
-told_by Done = done
-told_by (Refused refusal) = refused (number_of refusal)
-told_by NoSuchPart = no_such_part
+abbrev pub told_by : Result (Unit {0}) SetError → Told
+told_by (Ok _) = done
+told_by (Err (Refused refusal)) = refused (number_of refusal)
+told_by (Err NoSuchPart) = no_such_part
 
 -- done, unless there is a number to refuse with
 abbrev pub told : Option ℕ → Told

@@ -1,17 +1,15 @@
 //! What a pile stands on: a limit sheet or two pots.
-ghost use Rattle.std.specs.Prelude.{◌≡◌, cond};
-ghost use Rattle.clearing.specs.Book.{Book, can_reserve, reserved, can_release, released};
-ghost use Rattle.clearing.specs.Makeup.{Makeup, taken, returned};
-ghost use Rattle.clearing.specs.Refused.{refused_with};
-ghost use Rattle.pile.specs.Parts.{told_by, told, limit_told, limit_set, pots_told, pots_put, left_in, empty_base};
+ghost use Rattle.std.specs.Prelude.{◌≡◌};
+ghost use Rattle.pile.specs.Parts.{told_by, limit_told, limit_set, pots_told, pots_put, left_in, empty_base};
 ghost use Rattle.pile.specs.Bases.{base_book, base_makeup};
 ghost use Rattle.pile.specs.Bounds.{base_bounded};
 ghost use Rattle.std.proofs.Common.{rules};
 
-use clearing::{Clearing, LimitSheet, Refusal, TwoPots};
+use crate::set_error::SetError;
+use clearing::{Clearing, LimitSheet, TwoPots};
 
 /// The two kinds of base.
-#[derive(Clone, Copy)]
+#[derive(Clone, Copy, Debug, PartialEq, Eq)]
 pub enum BaseKind {
     /// A limit sheet.
     Sheet,
@@ -19,34 +17,11 @@ pub enum BaseKind {
     Pots,
 }
 
-/// What a setter of a pile answers.
-#[derive(Clone, Copy)]
-pub enum SetAnswer {
-    /// The figure is set.
-    Done,
-    /// Nothing is changed.
-    Refused(Refusal),
-    /// The pile has no part with such a figure.
-    NoSuchPart,
-}
-
 /// What lies under the caps.
 #[derive(Drop)]
 pub enum Base {
     Sheet(LimitSheet),
     Pots(TwoPots),
-}
-
-impl SetAnswer {
-    /// The answer of a part that the pile has.
-    pub(crate) fn of(answer: Result<(), Refusal>) -> SetAnswer
-        ensures { told_by result ≡ told (refused_with answer) }
-    {
-        match answer {
-            Ok(()) => SetAnswer::Done,
-            Err(refusal) => SetAnswer::Refused(refusal),
-        }
-    }
 }
 
 impl Base {
@@ -71,28 +46,35 @@ impl Base {
     }
 
     /// Sets a participant's limit, over a sheet.
-    pub(crate) fn set_limit(&mut self, participant: u32, limit: u32) -> SetAnswer
+    // Two setters of two lines, since each has its own part and its own figures.
+    pub(crate) fn set_limit(&mut self, participant: u32, limit: u32) -> Result<(), SetError>
         ensures answer { told_by result ≡ limit_told (base_makeup self.old) participant limit }
         ensures inside { base_makeup self.new ≡ limit_set (base_makeup self.old) participant limit }
     {
         match self {
-            Base::Sheet(sheet) => SetAnswer::of(sheet.set_limit(participant, limit)),
-            Base::Pots(_) => SetAnswer::NoSuchPart,
+            Base::Sheet(sheet) => Ok(sheet.set_limit(participant, limit)?),
+            Base::Pots(_) => Err(SetError::NoSuchPart),
         }
     }
 
     /// Sets a participant's two pots, over pots.
-    pub(crate) fn set_pots(&mut self, participant: u32, money: u32, securities: u32) -> SetAnswer
+    pub(crate) fn set_pots(
+        &mut self,
+        participant: u32,
+        money: u32,
+        securities: u32,
+    ) -> Result<(), SetError>
         ensures answer { told_by result ≡ pots_told (base_makeup self.old) participant money securities }
         ensures inside { base_makeup self.new ≡ pots_put (base_makeup self.old) participant money securities }
     {
         match self {
-            Base::Sheet(_) => SetAnswer::NoSuchPart,
-            Base::Pots(pots) => SetAnswer::of(pots.set_pots(participant, money, securities)),
+            Base::Sheet(_) => Err(SetError::NoSuchPart),
+            Base::Pots(pots) => Ok(pots.set_pots(participant, money, securities)?),
         }
     }
 }
 
+// A match in each: no closure takes two types of clearing, and a generic enum would name them left and right.
 impl Clearing for Base {
     ghost book = { base_book };
 

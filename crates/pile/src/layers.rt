@@ -1,13 +1,13 @@
 //! A pile: a base and the caps on it.
-ghost use Rattle.std.specs.Prelude.{◌≡◌, cond};
-ghost use Rattle.clearing.specs.Book.{Book, can_reserve, reserved, can_release, released};
-ghost use Rattle.clearing.specs.Makeup.{Makeup, taken, returned};
+ghost use Rattle.std.specs.Prelude.{◌≡◌};
+ghost use Rattle.std.specs.Fn.{FnOnceReturnsAtMut};
 ghost use Rattle.pile.specs.Parts.{told_by, limit_told, limit_set, pots_told, pots_put, cap_told, cap_set, left_in};
-ghost use Rattle.pile.specs.Piles.{pile_book, pile_makeup, new_pile, makeup_in};
+ghost use Rattle.pile.specs.Piles.{pile_book, pile_makeup, new_pile, makeup_in, base_of, with_base};
 ghost use Rattle.pile.specs.PileClearingLemmas.{pile_bounded};
 ghost use Rattle.std.proofs.Common.{rules};
 
-use crate::base::{Base, BaseKind, SetAnswer};
+use crate::base::{Base, BaseKind};
+use crate::set_error::SetError;
 use caps::Cap;
 use clearing::Clearing;
 
@@ -21,6 +21,7 @@ pub enum Pile {
 
 impl Pile {
     /// A pile of a base and 0 to 2 caps, every figure 0.
+    // A number of caps, and in `set_cap` of a layer, and no enum: any number may be asked for, and one that there is not is refused.
     pub fn new(base: BaseKind, caps: u32) -> Option<Pile>
         ensures { makeup_in result ≡ new_pile base caps }
     {
@@ -45,48 +46,55 @@ impl Pile {
     }
 
     /// Sets a participant's limit, over a sheet.
-    pub fn set_limit(&mut self, participant: u32, limit: u32) -> SetAnswer
+    pub fn set_limit(&mut self, participant: u32, limit: u32) -> Result<(), SetError>
         ensures answer { told_by result ≡ limit_told (pile_makeup self.old) participant limit }
         ensures inside { pile_makeup self.new ≡ limit_set (pile_makeup self.old) participant limit }
     {
-        match self {
-            Pile::Bare(base) => base.set_limit(participant, limit),
-            Pile::Capped(top) => top.below_mut().set_limit(participant, limit),
-            Pile::CappedTwice(top) => top.below_mut().below_mut().set_limit(participant, limit),
-        }
+        self.at_base(|base| base.set_limit(participant, limit))
     }
 
     /// Sets a participant's two pots, over pots.
-    pub fn set_pots(&mut self, participant: u32, money: u32, securities: u32) -> SetAnswer
+    pub fn set_pots(
+        &mut self,
+        participant: u32,
+        money: u32,
+        securities: u32,
+    ) -> Result<(), SetError>
         ensures answer { told_by result ≡ pots_told (pile_makeup self.old) participant money securities }
         ensures inside { pile_makeup self.new ≡ pots_put (pile_makeup self.old) participant money securities }
     {
-        match self {
-            Pile::Bare(base) => base.set_pots(participant, money, securities),
-            Pile::Capped(top) => top.below_mut().set_pots(participant, money, securities),
-            Pile::CappedTwice(top) => top
-                .below_mut()
-                .below_mut()
-                .set_pots(participant, money, securities),
-        }
+        self.at_base(|base| base.set_pots(participant, money, securities))
     }
 
     /// Sets a participant's cap in a layer; layer 1 is next to the base.
-    pub fn set_cap(&mut self, layer: u32, participant: u32, cap: u32) -> SetAnswer
+    pub fn set_cap(&mut self, layer: u32, participant: u32, cap: u32) -> Result<(), SetError>
         ensures answer { told_by result ≡ cap_told (pile_makeup self.old) layer participant «cap» }
         ensures inside { pile_makeup self.new ≡ cap_set (pile_makeup self.old) layer participant «cap» }
     {
         match self {
-            Pile::Capped(top) if layer == 1 => SetAnswer::of(top.set_cap(participant, cap)),
-            Pile::CappedTwice(top) if layer == 1 => SetAnswer::of(
-                top.below_mut().set_cap(participant, cap),
-            ),
-            Pile::CappedTwice(top) if layer == 2 => SetAnswer::of(top.set_cap(participant, cap)),
-            _ => SetAnswer::NoSuchPart,
+            Pile::Capped(top) if layer == 1 => top.set_cap(participant, cap)?,
+            Pile::CappedTwice(top) if layer == 1 => top.below_mut().set_cap(participant, cap)?,
+            Pile::CappedTwice(top) if layer == 2 => top.set_cap(participant, cap)?,
+            _ => return Err(SetError::NoSuchPart),
+        }
+        Ok(())
+    }
+
+    /// What a change of the base answers; the caps stay.
+    fn at_base<R, F: FnOnce(&mut Base) -> R>(&mut self, change: F) -> R
+        requires { F.IsAlwaysCallable change }
+        ensures base { FnOnceReturnsAtMut F.FnOnce change (base_of self.old) result (base_of self.new) }
+        ensures caps { self.new ≡ with_base self.old (base_of self.new) }
+    {
+        match self {
+            Pile::Bare(base) => change(base),
+            Pile::Capped(top) => change(top.below_mut()),
+            Pile::CappedTwice(top) => change(top.below_mut().below_mut()),
         }
     }
 }
 
+// A match in each: no closure takes three types of clearing, and a `dyn Clearing` may not be made and handed out.
 impl Clearing for Pile {
     ghost book = { pile_book };
 

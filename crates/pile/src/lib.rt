@@ -3,6 +3,8 @@
 
 mod base;
 mod layers;
+mod set_error;
 
-pub use base::{Base, BaseKind, SetAnswer};
+pub use base::{Base, BaseKind};
 pub use layers::Pile;
+pub use set_error::SetError;
