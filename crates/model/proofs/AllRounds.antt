@@ -121,7 +121,7 @@ reached_first e n m sound fresh =
     nothing k = ap (λ (rows : List Row). concluded_with e.direction n rows k) fresh
 
 -- a test of what another keeps
-kept_twice : (p q both : ℕ → Bool) → ((k : ℕ) → both k ≡ (q k && p k)) → (ks : List ℕ) → filter p (filter q ks) ≡ filter both ks
+pub kept_twice : {X : Type 0} (p q both : X → Bool) → ((k : X) → both k ≡ (q k && p k)) → (ks : List X) → filter p (filter q ks) ≡ filter both ks
 kept_twice p q both is [] = refl
 kept_twice p q both is (k ∷ ks) = by_tests (p k) (q k) (both k) refl (is k) (kept_twice p q both is ks)
   where

@@ -1,6 +1,7 @@
 -- Those that show lots again in a round, and the others, each in the order in which they stood.
 use Rattle.std.proofs.Common.{◌≡◌, ℕ, ◌<◌, ◌≤◌, Bool, true, false, cond, not, eqb, ◌⊎◌, List, ◌++◌, length, filter, sym, refl, ap, ◌∙◌, ap₂, inl, inr, zero-add, arith}
 use mathlib.Core.Path.{fun_ext}
+use Rattle.std.proofs.Math.Bool.{not-not}
 use Rattle.std.proofs.lemmas.List.{get_or_past}
 use Rattle.std.proofs.lemmas.Bool.{cases_lt}
 use Rattle.std.proofs.lemmas.Bool.Decides.{nat_tests}
@@ -45,10 +46,6 @@ same_at cs shares orders plain k = by (cases_lt k (length orders))
         ∙ sym (none_refills (share_at k cs shares))
         ∙ ap (λ (o : Order). not (refills (share_at k cs shares) o)) (sym (get_or_past orders k none past))
 
-not_not : (b : Bool) → not (not b) ≡ b
-not_not true = refl
-not_not false = refl
-
 -- the queue after a round
 pub refills_in_turn : RefillsInTurn
 unfolding round after_round
@@ -59,5 +56,5 @@ refills_in_turn rule s e n left m plain =
     let stays : (λ (k : ℕ). not (refills (share_at k cs shares) (order_at m.orders k))) ≡ (λ k. eqb (order_at after k).hidden (order_at m.orders k).hidden) =
     fun_ext (λ k. sym (same_at cs shares m.orders plain k)) in
     let goes : (λ (k : ℕ). refills (share_at k cs shares) (order_at m.orders k)) ≡ (λ k. not (eqb (order_at after k).hidden (order_at m.orders k).hidden)) =
-    fun_ext (λ k. sym (not_not (refills (share_at k cs shares) (order_at m.orders k))) ∙ ap not (sym (same_at cs shares m.orders plain k))) in
+    fun_ext (λ k. sym (not-not (refills (share_at k cs shares) (order_at m.orders k))) ∙ ap not (sym (same_at cs shares m.orders plain k))) in
     ap₂ (λ (p q : ℕ → Bool). filter p m.queue ++ filter q m.queue) stays goes

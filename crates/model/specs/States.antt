@@ -1,5 +1,4 @@
--- The day that a state of fixed arrays stands for.
-use Rattle.std.specs.Prelude.{take}
+-- The day that a state of fixed tables stands for.
 use Rattle.model.specs.Days.{Day}
 use Rattle.model.specs.declared.state.DayState.{DayState}
 
@@ -8,7 +7,7 @@ abbrev pub day_of : DayState → Day
 day_of s = record {
   settings = s.settings;
   clock = s.clock;
-  orders = take s.count s.orders;
-  queue = take s.count s.queue;
+  orders = s.orders.items;
+  queue = s.queue.items;
   used = s.used;
 }

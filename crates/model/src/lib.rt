@@ -4,5 +4,5 @@
 mod state;
 mod theorems;
 
-pub use state::DayState;
+pub use state::{DayState, MOST_ORDERS};
 pub use theorems::{every_list_obeys, figures_hold, refills_in_turn};

@@ -1,60 +1,36 @@
-//! The state of a day, in arrays of fixed size.
+//! The state of a day, in tables of fixed size.
 ghost use Rattle.std.specs.Prelude.{◌≡◌};
 ghost use Rattle.model.specs.Days.{opened};
 ghost use Rattle.model.specs.States.{day_of};
 
-use orders::{
-    Code, Direction, Kind, OPENING_TIME, Order, Rate, Remainder, Settings, State as Life, Terms,
-};
+use arrayvec::ArrayVec;
+use orders::{OPENING_TIME, Order, Settings};
 
 /// The most orders of a day: 64 of each direction.
 pub const MOST_ORDERS: usize = 128;
 
-/// No order: done, with nothing asked.
-pub const NO_ORDER: Order = Order {
-    number: 0,
-    owner: 0,
-    terms: Terms {
-        direction: Direction::Deposit,
-        kind: Kind::Limit,
-        remainder: Remainder::Queue,
-        securities: 0,
-        code: Code { m: 0, term: 0 },
-        rate: Rate { hundredths: 0 },
-        sum: 0,
-        percent: 0,
-        return_mark: false,
-        activation: 0,
-    },
-    state: Life::Done,
-    visible: 0,
-    hidden: 0,
-    withdrawn: 0,
-};
-
-/// A day: its first `count` orders, with number k + 1 at place k, and the queue of their places.
-#[derive(Clone, Copy)]
+/// A day: its orders, with number k + 1 at place k, and the queue of their places. No part of it lies on the heap.
+// Places and no orders in the queue: an order keeps its place for good, since its number is the place's.
+// No `Copy`: a vector of a fixed capacity has none, and a day is one value.
+#[derive(Clone, Drop)]
 pub struct DayState {
     pub settings: Settings,
     pub clock: u32,
-    pub orders: [Order; 128],
-    pub queue: [u8; 128],
-    pub count: usize,
+    pub orders: ArrayVec<Order, MOST_ORDERS>,
+    pub queue: ArrayVec<u8, MOST_ORDERS>,
     pub used: usize,
 }
 
 impl DayState {
     /// A newly opened day.
     pub fn open(settings: Settings) -> DayState
-        ensures day { day_of result ≡ opened settings }
-        ensures count { result.count ≡ 0 }
+        ensures { day_of result ≡ opened settings }
     {
         DayState {
             settings,
             clock: OPENING_TIME,
-            orders: [NO_ORDER; 128],
-            queue: [0; 128],
-            count: 0,
+            orders: ArrayVec::new(),
+            queue: ArrayVec::new(),
             used: 0,
         }
     }

@@ -4,22 +4,18 @@ ghost use Rattle.model.specs.Law.{EveryList};
 ghost use Rattle.model.specs.Refills.{RefillsInTurn};
 
 /// All worked figures hold.
-pub fn figures_hold() -> u8
+pub fn figures_hold()
     ensures { Figures }
 {
     sharing::figures_hold()
 }
 
 /// The law of every list of calls.
-pub fn every_list_obeys() -> u8
+pub fn every_list_obeys()
     ensures { EveryList }
-{
-    0
-}
+{}
 
 /// Several orders that show lots again in one round do so in list order, behind all others.
-pub fn refills_in_turn() -> u8
+pub fn refills_in_turn()
     ensures { RefillsInTurn }
-{
-    0
-}
+{}

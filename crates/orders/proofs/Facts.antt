@@ -16,7 +16,8 @@ codes a b =
     Decides-like _ (λ e. ap₂ code e.0 e.1) (λ e. (ap (λ (c : Code). c.m) e, ap (λ (c : Code). c.term) e))
     (Decides-and _ _ (Decides-eqb a.m b.m) (Decides-eqb a.term b.term))
 
-unmarked : (b : Bool) → Decides (not b) (b ≡ false)
+-- a test of no is a proof of no
+pub unmarked : (b : Bool) → Decides (not b) (b ≡ false)
 unmarked true = (λ e. cc, λ e. cc)
 unmarked false = (λ _. refl, λ _. refl)
 

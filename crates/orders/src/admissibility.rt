@@ -1,6 +1,7 @@
 //! Which orders may meet, and at which rate.
+// Deposit and repo order stay two parameters: a pair of them would be made for each question and taken apart in it.
 ghost use Rattle.std.specs.Prelude.{◌≡◌};
-ghost use Rattle.orders.specs.Admissible.{names, same_code, security_held, rates_meet, admissible, admissible_to, row_rate};
+ghost use Rattle.orders.specs.Admissible.{names, security_held, rates_meet, admissible, admissible_to, row_rate};
 
 use crate::kinds::{Direction, Kind, Rate, Terms};
 use crate::settings::Settings;
@@ -16,7 +17,7 @@ pub fn names(securities: u64, security: u32) -> bool
 pub fn admissible(deposit: &Terms, repo: &Terms) -> bool
     ensures { result ≡ admissible deposit.now repo.now }
 {
-    same_code(deposit, repo)
+    deposit.code == repo.code
         && security_held(deposit, repo)
         && !repo.return_mark
         && rates_meet(deposit, repo)
@@ -40,13 +41,6 @@ pub fn row_rate(_settings: &Settings, resting: &Terms) -> Rate
     resting.rate
 }
 
-/// Whether the settlement codes are equal.
-fn same_code(deposit: &Terms, repo: &Terms) -> bool
-    ensures { result ≡ same_code deposit.now repo.now }
-{
-    deposit.code.m == repo.code.m && deposit.code.term == repo.code.term
-}
-
 /// Whether the repo order's security is in the deposit's set.
 fn security_held(deposit: &Terms, repo: &Terms) -> bool
     ensures { result ≡ security_held deposit.now repo.now }
@@ -59,7 +53,7 @@ fn rates_meet(deposit: &Terms, repo: &Terms) -> bool
     ensures { result ≡ rates_meet deposit.now repo.now }
 {
     match (deposit.kind, repo.kind) {
-        (Kind::Limit, Kind::Limit) => deposit.rate.hundredths <= repo.rate.hundredths,
+        (Kind::Limit, Kind::Limit) => deposit.rate <= repo.rate,
         _ => true,
     }
 }

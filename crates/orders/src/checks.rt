@@ -1,8 +1,10 @@
 //! The checks of an order that need only its terms, the settings and the clock.
+// Mode and terms stay two parameters: one is the day's and one the order's, and a struct of both would be made at each question.
 ghost use Rattle.std.specs.Prelude.{◌≡◌};
 ghost use Rattle.orders.specs.Checks.{waits_first, wrong_rate, wrong_sum, lawful_code, wrong_securities, wrong_marks, wrong_percent, wrong_time};
 ghost use Rattle.orders.specs.Checks.{limit_queue, market_remains, misplaced_percent, returned_deposit, unfit_for_auction};
 ghost use Rattle.orders.specs.Table.{first, terms_table};
+ghost use Rattle.std.specs.Result.{result_err};
 
 use crate::kinds::{Code, Direction, Kind, Mode, Remainder, Terms};
 use crate::refusals::Refusal;
@@ -19,7 +21,7 @@ pub const LAST_TIME: u32 = 86_340;
 const LAST_PARTICIPANT: u32 = 63;
 
 /// The largest sum of an order.
-const MAX_SUM: u32 = 1_000_000;
+pub(crate) const MAX_SUM: u32 = 1_000_000;
 
 /// The largest limit rate, in hundredths of a percent.
 const MAX_RATE: u32 = 10_000;
@@ -30,27 +32,27 @@ pub fn check_terms(
     clock: u32,
     participant: u32,
     terms: &Terms,
-) -> Option<Refusal>
-    ensures { result ≡ first (terms_table settings.now clock participant terms.now) }
+) -> Result<(), Refusal>
+    ensures { result_err result ≡ first (terms_table settings.now clock participant terms.now) }
 {
     if participant > LAST_PARTICIPANT {
-        Some(Refusal::Participant)
+        Err(Refusal::Participant)
     } else if wrong_rate(terms) {
-        Some(Refusal::Rate)
+        Err(Refusal::Rate)
     } else if wrong_sum(settings, terms) {
-        Some(Refusal::Sum)
+        Err(Refusal::Sum)
     } else if !lawful_code(terms.code) {
-        Some(Refusal::Code)
+        Err(Refusal::Code)
     } else if wrong_securities(settings.mode(), terms) {
-        Some(Refusal::Securities)
+        Err(Refusal::Securities)
     } else if wrong_marks(settings.mode(), terms) {
-        Some(Refusal::Marks)
+        Err(Refusal::Marks)
     } else if wrong_percent(settings, terms) {
-        Some(Refusal::Percent)
+        Err(Refusal::Percent)
     } else if wrong_time(settings.mode(), clock, terms) {
-        Some(Refusal::Time)
+        Err(Refusal::Time)
     } else {
-        None
+        Ok(())
     }
 }
 
@@ -65,7 +67,7 @@ pub fn lawful_code(code: Code) -> bool
 pub fn waits(mode: Mode, terms: &Terms) -> bool
     ensures { result ≡ waits_first mode terms.now }
 {
-    matches!((mode, terms.direction), (Mode::Auction, Direction::Deposit))
+    mode == Mode::Auction && terms.direction == Direction::Deposit
 }
 
 /// Whether a limit rate is outside 1 to 10,000, or a market rate is not 0.
@@ -74,7 +76,7 @@ fn wrong_rate(terms: &Terms) -> bool
 {
     let rate = terms.rate.hundredths;
     match terms.kind {
-        Kind::Limit => rate < 1 || rate > MAX_RATE,
+        Kind::Limit => !(1..=MAX_RATE).contains(&rate),
         Kind::Market => rate != 0,
     }
 }
@@ -91,7 +93,7 @@ fn wrong_securities(mode: Mode, terms: &Terms) -> bool
     ensures { result ≡ wrong_securities mode terms.now }
 {
     let count = terms.securities.count_ones();
-    let just_one = matches!(terms.direction, Direction::Repo) || matches!(mode, Mode::Unaddressed);
+    let just_one = terms.direction == Direction::Repo || mode == Mode::Unaddressed;
     count == 0 || count > 1 && just_one
 }
 
@@ -109,24 +111,21 @@ fn wrong_marks(mode: Mode, terms: &Terms) -> bool
 fn market_remains(terms: &Terms) -> bool
     ensures { result ≡ market_remains terms.now }
 {
-    matches!(
-        (terms.kind, terms.remainder),
-        (Kind::Market, Remainder::Queue | Remainder::FillOrReject)
-    )
+    terms.kind == Kind::Market && terms.remainder != Remainder::Withdraw
 }
 
 /// Whether a percent stands on any but a limit queue order, or in an auction.
 fn misplaced_percent(mode: Mode, terms: &Terms) -> bool
     ensures { result ≡ misplaced_percent mode terms.now }
 {
-    terms.percent > 0 && (!limit_queue(terms) || matches!(mode, Mode::Auction))
+    terms.percent > 0 && (!limit_queue(terms) || mode == Mode::Auction)
 }
 
 /// Whether a deposit has a return mark.
 fn returned_deposit(terms: &Terms) -> bool
     ensures { result ≡ returned_deposit terms.now }
 {
-    terms.return_mark && matches!(terms.direction, Direction::Deposit)
+    terms.return_mark && terms.direction == Direction::Deposit
 }
 
 /// Whether it is an auction, and a deposit is market or queue, or a repo order is not limit and queue.
@@ -136,7 +135,7 @@ fn unfit_for_auction(mode: Mode, terms: &Terms) -> bool
     match (mode, terms.direction) {
         (Mode::Unaddressed, _) => false,
         (Mode::Auction, Direction::Deposit) => {
-            matches!(terms.kind, Kind::Market) || matches!(terms.remainder, Remainder::Queue)
+            terms.kind == Kind::Market || terms.remainder == Remainder::Queue
         }
         (Mode::Auction, Direction::Repo) => !limit_queue(terms),
     }
@@ -146,10 +145,7 @@ fn unfit_for_auction(mode: Mode, terms: &Terms) -> bool
 fn limit_queue(terms: &Terms) -> bool
     ensures { result ≡ limit_queue terms.now }
 {
-    matches!(
-        (terms.kind, terms.remainder),
-        (Kind::Limit, Remainder::Queue)
-    )
+    terms.kind == Kind::Limit && terms.remainder == Remainder::Queue
 }
 
 /// Whether an iceberg's percent, sum or visible sum is outside the settings.
@@ -157,8 +153,7 @@ fn wrong_percent(settings: &Settings, terms: &Terms) -> bool
     ensures { result ≡ wrong_percent settings.now terms.now }
 {
     terms.percent > 0
-        && (terms.percent < settings.least_percent()
-            || terms.percent > settings.greatest_percent()
+        && (!(settings.least_percent()..=settings.greatest_percent()).contains(&terms.percent)
             || terms.sum < settings.least_iceberg_sum()
             || visible_sum(terms.sum, terms.percent) < settings.least_sum())
 }

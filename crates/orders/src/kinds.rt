@@ -1,23 +1,26 @@
 //! What an order asks, and how it stands in a day. All sums are in lots, all times in seconds after midnight.
 
 /// A deposit order places money, a repo order takes it against securities.
-#[derive(Clone, Copy)]
+#[derive(Clone, Copy, Debug, Default, PartialEq, Eq)]
 pub enum Direction {
+    #[default]
     Deposit,
     Repo,
 }
 
 /// A limit order has a rate, a market order meets every rate.
-#[derive(Clone, Copy)]
+#[derive(Clone, Copy, Debug, Default, PartialEq, Eq)]
 pub enum Kind {
+    #[default]
     Limit,
     Market,
 }
 
 /// What becomes of the lots that an order does not conclude when it enters.
-#[derive(Clone, Copy)]
+#[derive(Clone, Copy, Debug, Default, PartialEq, Eq)]
 pub enum Remainder {
     /// They rest in the queue.
+    #[default]
     Queue,
     /// They are withdrawn.
     Withdraw,
@@ -26,7 +29,7 @@ pub enum Remainder {
 }
 
 /// How the orders of a day meet.
-#[derive(Clone, Copy)]
+#[derive(Clone, Copy, Debug, PartialEq, Eq)]
 pub enum Mode {
     Unaddressed,
     Auction,
@@ -34,20 +37,22 @@ pub enum Mode {
 
 /// A settlement code Ym/Yn: `m` from 0 to 2, and `term` the index of n, from 0 to 13, in
 /// 1D, 1W, 2W, 5W, 1M, 2M, 3M, 6M, 9M, 12M, 18M, 24M, 30M, 36M.
-#[derive(Clone, Copy)]
+// Numbers and no enum: any two numbers may be asked for, and those that name no code are refused.
+#[derive(Clone, Copy, Debug, Default, PartialEq, Eq)]
 pub struct Code {
     pub m: u32,
     pub term: u32,
 }
 
 /// A rate in hundredths of a percent a year.
-#[derive(Clone, Copy)]
+#[derive(Clone, Copy, Debug, Default, PartialEq, Eq, PartialOrd, Ord)]
 pub struct Rate {
     pub hundredths: u32,
 }
 
 /// What an order asks.
-#[derive(Clone, Copy)]
+// A rate beside the kind, and 0 for no percent and no activation, not options: any figures may be asked for, and refusals 4, 8, 9 and 10 tell which do not go together.
+#[derive(Clone, Copy, Debug, Default, PartialEq, Eq)]
 pub struct Terms {
     pub direction: Direction,
     pub kind: Kind,
@@ -65,16 +70,17 @@ pub struct Terms {
     pub activation: u32,
 }
 
-/// Where an order is in its life. `Done` stands first, so that an order of zeros alone is done.
-#[derive(Clone, Copy)]
+/// Where an order is in its life. `Done` is the default, so that an unused place of a table holds a done order.
+#[derive(Clone, Copy, Debug, Default, PartialEq, Eq)]
 pub enum State {
+    #[default]
     Done,
     Waiting,
     Active,
 }
 
 /// A registered order.
-#[derive(Clone, Copy)]
+#[derive(Clone, Copy, Debug, Default, PartialEq, Eq)]
 pub struct Order {
     pub number: u32,
     pub owner: u32,
@@ -86,7 +92,7 @@ pub struct Order {
 }
 
 /// A register row: the lots that two orders, given by their numbers, concluded with each other.
-#[derive(Clone, Copy)]
+#[derive(Clone, Copy, Debug, PartialEq, Eq)]
 pub struct Row {
     pub deposit: u32,
     pub repo: u32,

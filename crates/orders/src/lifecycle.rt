@@ -5,7 +5,7 @@ ghost use Rattle.orders.specs.Life.{next_state};
 use crate::kinds::State;
 
 /// What happens to an order.
-#[derive(Clone, Copy)]
+#[derive(Clone, Copy, Debug, PartialEq, Eq)]
 pub enum Event {
     Activation,
     /// Lots were concluded, and `left` are neither concluded nor withdrawn.

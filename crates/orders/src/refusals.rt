@@ -3,7 +3,7 @@ ghost use Rattle.std.specs.Prelude.{◌≡◌};
 ghost use Rattle.orders.specs.Answers.{refusal_number};
 
 /// What a call is refused for.
-#[derive(Clone, Copy)]
+#[derive(Clone, Copy, Debug, PartialEq, Eq)]
 pub enum Refusal {
     Settings,
     RegisterLength,
@@ -27,6 +27,7 @@ pub enum Refusal {
 
 impl Refusal {
     /// The refusal's number, from 1 to 18.
+    // A match and not discriminants: the numbers are the published table, which is read here line by line.
     pub fn number(self) -> u32
         ensures { result ≡ refusal_number self }
     {
@@ -54,20 +55,20 @@ impl Refusal {
 }
 
 /// An order was registered under `number` and concluded `lots` when it entered.
-#[derive(Clone, Copy)]
+#[derive(Clone, Copy, Debug, PartialEq, Eq)]
 pub struct Placed {
     pub number: u32,
     pub lots: u32,
 }
 
 /// `lots` of an order were withdrawn.
-#[derive(Clone, Copy)]
+#[derive(Clone, Copy, Debug, PartialEq, Eq)]
 pub struct Withdrawn {
     pub lots: u32,
 }
 
 /// The clock moved: `count` orders were activated, and together they concluded `lots`.
-#[derive(Clone, Copy)]
+#[derive(Clone, Copy, Debug, PartialEq, Eq)]
 pub struct Clocked {
     pub count: u32,
     pub lots: u32,

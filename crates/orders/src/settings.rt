@@ -6,7 +6,7 @@ use crate::kinds::Mode;
 mod figures;
 
 /// Settings that passed their check.
-#[derive(Clone, Copy)]
+#[derive(Clone, Copy, Debug, PartialEq, Eq)]
 pub struct Settings {
     mode: Mode,
     least_percent: u32,

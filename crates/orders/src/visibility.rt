@@ -11,12 +11,13 @@ pub fn visible_sum(sum: u32, percent: u32) -> u32
     if percent == 0 {
         return sum;
     }
-    share(sum, percent).min(sum as u64) as u32
+    // `as`, and no `try_from`, whose refusal could never come: this is at most the sum.
+    share(sum, percent).min(u64::from(sum)) as u32
 }
 
 /// `sum` × `percent` / 100 rounded up.
 fn share(sum: u32, percent: u32) -> u64
     ensures { result ≡ share_of sum percent }
 {
-    (sum as u64 * percent as u64 + 99) / 100
+    (u64::from(sum) * u64::from(percent) + 99) / 100
 }

@@ -3,6 +3,7 @@ ghost use Rattle.std.specs.Prelude.{◌≡◌, Decides};
 ghost use Rattle.orders.specs.Lawful.{LeastSum, Percents};
 ghost use Rattle.orders.specs.Made.{MadeOf};
 
+use crate::checks::MAX_SUM;
 use crate::kinds::Mode;
 use crate::refusals::Refusal;
 use crate::settings::Settings;
@@ -91,5 +92,5 @@ fn lawful_percents(least: u32, greatest: u32) -> bool
 fn lawful_least(sum: u32) -> bool
     ensures { Decides result (LeastSum sum) }
 {
-    1 <= sum && sum <= 1_000_000
+    (1..=MAX_SUM).contains(&sum)
 }
