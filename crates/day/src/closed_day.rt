@@ -13,6 +13,7 @@ pub struct ClosedDay {
     ghost reached: { ReachedClosed (day_of desk.state) },
 }
 
+// Its questions are the desk's, by name: a `Deref` to the desk would give a closed day calls too.
 impl ClosedDay {
     /// How many register rows were used.
     pub fn used_rows(&self) -> usize

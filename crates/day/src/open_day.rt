@@ -31,6 +31,7 @@ pub struct OpenDay {
     ghost reached: { Reached (day_of desk.state) },
 }
 
+// Its questions are the desk's, by name: a `Deref` to the desk would give an open day a statement too.
 impl OpenDay {
     /// Opens a day: no order, every register row free.
     pub fn open(settings: Settings) -> OpenDay

@@ -1,6 +1,5 @@
 -- Activations, one after another.
-use Rattle.std.proofs.Common.{◌≡◌, ℕ, suc, ◌+◌, ◌-◌, ◌*◌, ◌<◌, ◌≤◌, Bool, true, false, eqb, List, ◌∷◌, length, get_or, take, drop, count_by, sym, refl, ap, ◌∙◌, subst, mul-le-mul_left, arith}
-use native.Mathlib.Nat.{sub-zero}
+use Rattle.std.proofs.Common.{◌≡◌, ℕ, suc, ◌+◌, ◌-◌, ◌*◌, ◌<◌, ◌≤◌, Bool, true, false, eqb, List, ◌∷◌, length, get_or, drop, count_by, sym, refl, ap, ◌∙◌, subst, mul-le-mul_left, arith}
 use Rattle.std.specs.List.{AllByRecursion}
 use Rattle.std.proofs.lemmas.List.{drop_more, at_drop_more, at_drop_all}
 use Rattle.std.proofs.lemmas.Bool.Decides.{nat_tests}
@@ -11,40 +10,25 @@ use Rattle.orders.specs.declared.kinds.Direction.TheVariants.{Deposit}
 use Rattle.orders.specs.declared.kinds.Order.{Order}
 use Rattle.orders.specs.declared.kinds.Row.{Row}
 use Rattle.orders.specs.declared.kinds.State.TheVariants.{Waiting}
-use Rattle.orders.specs.declared.kinds.Terms.{Terms}
 use Rattle.orders.specs.declared.lifecycle.Event.TheVariants.{Withdrawal}
 use Rattle.orders.specs.declared.settings.Settings.{Settings}
 use Rattle.model.specs.Calls.{LawfulRule}
 use Rattle.model.specs.Clock.{entered_late, activated_failing, activated_meeting, activated, activations, Clocking}
 use Rattle.model.specs.Days.{Day, World, written}
 use Rattle.model.specs.Market.{order_at, lots_of}
-use Rattle.model.specs.Place.{opposite, volume_fails, market_of}
+use Rattle.model.specs.Place.{opposite, volume_fails}
 use Rattle.model.specs.Rounds.{Rule, Meeting}
-use Rattle.model.specs.Sound.{SoundOrder, LawfulDay}
-use Rattle.model.specs.States.{day_of}
+use Rattle.model.specs.Sound.{LawfulDay}
 use Rattle.model.specs.Withdraw.{taken_out, with_order_at}
-use Rattle.model.specs.declared.state.DayState.{DayState}
-use Rattle.model.proofs.Entries.{entry}
 use Rattle.model.proofs.LawfulDays.{AtRest, activated_lawful, beside_fewer, rest_waits}
 use Rattle.model.proofs.Places.{count_cons}
 use Rattle.desk.specs.Due.{MayEnter}
 use Rattle.desk.specs.Entry.{day_met, meeting_in}
 use Rattle.desk.specs.Inside.{withdrawn_late, activations_inside}
-use Rattle.desk.specs.Kept.{Kept}
-
--- a state that an entry left is kept
-pub met_kept : (rule : Rule) (before s : DayState) (e : Terms) (n : ℕ) → LawfulRule rule → LawfulDay (day_of before) → Kept before → s.count ≡ before.count
-    → day_of s ≡ day_met (day_of before) (meeting_in rule (day_of before) e n) → Kept s
-met_kept rule before s e n lawful day kept count is =
-    let met = entry rule (day_of before).settings e n (market_of (day_of before)) lawful day.market refl in
-    let long : length (day_of s).orders ≡ length (day_of before).orders = ap (λ (d : Day). length d.orders) is ∙ met.enters.same in
-    record {
-      long = omega (arith, kept.long);
-      orders = record {
-        few = omega (arith, kept.orders.few);
-        sound = subst (λ (d : Day). (k : ℕ) → k < length d.orders → SoundOrder (order_at d.orders k)) (sym is) met.sound.orders;
-      };
-    }
+use Rattle.desk.specs.Kept.{Sound}
+use Rattle.desk.specs.Worlds.{world_of}
+use Rattle.model.specs.States.{day_of}
+use Rattle.model.specs.declared.state.DayState.{DayState}
 
 -- an order that waits is a deposit, so its rows have room
 pub late_room : (d : Day) (k room : ℕ) (o : Order) → LawfulDay d → k < length d.orders → (order_at d.orders k).state ≡ Waiting → o ≡ order_at d.orders k
@@ -62,19 +46,23 @@ pub met_lots : (k : ℕ) (w : World) (met : Meeting) (o : Order) (left : ℕ) �
 unfolding activated_meeting
 met_lots k w met o left is rest = rw (is, rest) refl
 
-pub met_world : (k : ℕ) (w : World) (met : Meeting) (o late : Order) (left : ℕ) (between day : Day) (register : List Row) (cover : Book)
-    → o ≡ order_at w.day.orders k → left ≡ met.left → between ≡ day_met w.day met → late ≡ entered_late o left → day ≡ with_order_at between k late
+pub met_world : (k : ℕ) (w : World) (met : Meeting) (o late : Order) (left : ℕ) (s : DayState) (after : Day) (register : List Row) (cover : Book)
+    → after ≡ with_order_at (day_of s) k late → o ≡ order_at w.day.orders k → left ≡ met.left → day_of s ≡ day_met w.day met → late ≡ entered_late o left
     → register ≡ written w.register w.day.used met.market.rows → cover ≡ released w.cover o.owner left
-    → record { day = day; register = register; cover = cover } ≡ (activated_meeting k w met).world
+    → record {
+      day = after;
+      register = register;
+      cover = cover;
+    } ≡ (activated_meeting k w met).world
 unfolding activated_meeting
-met_world k w met o late left between day register cover is rest enters lately leaves rows covers =
-    rw (leaves, lately, enters, rows, covers, rest, is) refl
+met_world k w met o late left s after register cover puts is rest enters lately rows covers =
+    ap (λ (d : Day). record { day = d; register = register; cover = cover }) (puts ∙ ap (λ (d : Day). with_order_at d k late) enters)
+    ∙ rw (lately, rows, covers, rest, is) refl
 
--- its volume test, over the registered orders
-pub late_test : (s : DayState) (k : ℕ) (o : Order) (b : Bool) → o ≡ order_at (day_of s).orders k → b ≡ volume_fails o.terms (take (s.count - 0) s.orders)
+-- its volume test
+pub late_test : (s : DayState) (k : ℕ) (o : Order) (b : Bool) → o ≡ order_at (day_of s).orders k → b ≡ volume_fails o.terms (day_of s).orders
     → volume_fails (order_at (day_of s).orders k).terms (day_of s).orders ≡ b
-late_test s k o b is test =
-    sym (test ∙ ap (λ (n : ℕ). volume_fails o.terms (take n s.orders)) (sub-zero s.count) ∙ ap (λ (x : Order). volume_fails x.terms (day_of s).orders) is)
+late_test s k o b is test = sym (test ∙ ap (λ (x : Order). volume_fails x.terms (day_of s).orders) is)
 
 -- the volume test says which way an activation goes
 pub fails_activated : (rule : Rule) (k : ℕ) (w : World) → volume_fails (order_at w.day.orders k).terms w.day.orders ≡ true → activated_failing k w ≡ activated rule k w
@@ -97,11 +85,15 @@ unfolding withdrawn_late
 passes_withdrawn rule k w e = rw (withdrawn_late, e) refl
 
 -- an order whose volume test failed is taken out
-pub failed_world : (k : ℕ) (w : World) (day : Day) (cover : Book) → day ≡ with_order_at w.day k (taken_out Withdrawal (order_at w.day.orders k))
-    → cover ≡ released w.cover (order_at w.day.orders k).owner (lots_of (order_at w.day.orders k))
-    → record { day = day; register = w.register; cover = cover } ≡ (activated_failing k w).world
+pub failed_world : (k : ℕ) (s : DayState) (register : List Row) (before : Book) (was o : Order) (after : Day) (cover : Book) → was ≡ order_at (day_of s).orders k
+    → o ≡ taken_out Withdrawal was → cover ≡ released before was.owner (lots_of was) → after ≡ with_order_at (day_of s) k o
+    → record {
+      day = after;
+      register = register;
+      cover = cover;
+    } ≡ (activated_failing k (world_of s register before)).world
 unfolding activated_failing
-failed_world k w day cover leaves covers = rw (leaves, covers) refl
+failed_world k s register before was o after cover here leaves covers is = rw (is, leaves, covers, here) refl
 
 pub failed_lots : (k : ℕ) (w : World) → 0 ≡ (activated_failing k w).lots
 unfolding activated_failing
@@ -178,3 +170,11 @@ ahead_all rule ks w m i lots reached inside all ahead =
       sym (ap (λ (c : Clocking). c.world) none) ∙ ahead.world_is,
       sym (at_drop_all (λ js. activations_inside rule js reached inside) ks i all) ∙ ahead.inside_is,
     )
+
+-- a state after an activation is kept
+pub activated_keeps : (rule : Rule) → LawfulRule rule → (s : DayState) (register : List Row) (cover : Book) (k : ℕ) → Sound s → k < length (day_of s).orders → (order_at (day_of s).orders k).state ≡ Waiting
+    → length register ≡ s.settings.rows → s.used + opposite Deposit (day_of s).orders ≤ length register
+    → (after : Day) → after ≡ (activated rule k (world_of s register cover)).world.day → ∥ LawfulDay after ∥₁
+activated_keeps rule lawful s register cover k sound stands waits long room after is =
+    let left = activated_lawful rule lawful (world_of s register cover) k sound stands waits (omega (arith, long, room)) in
+    ∣ subst LawfulDay (sym is) left.day ∣₁

@@ -1,16 +1,17 @@
 -- The rows of a round, share by share.
-use Rattle.std.proofs.Common.{◌≡◌, ℕ, ◌+◌, ◌^◌, ◌<◌, ◌≤◌, eqb, List, [], ◌∷◌, length, get_or, take, drop, sum_by, sum, sym, refl, ap, ◌∙◌, subst, le_trans, arith}
+use Rattle.std.proofs.Common.{◌≡◌, ℕ, ◌+◌, ◌^◌, ◌<◌, ◌≤◌, eqb, List, [], ◌∷◌, length, take, drop, sum_by, sum, sym, refl, ap, ◌∙◌, le_trans, arith}
 use Rattle.std.proofs.lemmas.List.{drop_all, drop_more, length-take-le}
 use Rattle.std.proofs.lemmas.List.Sums.{sum_by-cons, sum_by-drop_more}
-use Rattle.std.proofs.lemmas.Bool.{cond_both, cond-false, cond-true, eq-eqb, eqb-true, ne_eqb}
+use Rattle.std.proofs.lemmas.Bool.{cond_both, eqb-true}
 use Rattle.orders.specs.declared.kinds.Direction.{Direction}
 use Rattle.orders.specs.declared.kinds.Direction.TheVariants.{Deposit, Repo}
 use Rattle.orders.specs.declared.kinds.Order.{Order}
 use Rattle.orders.specs.declared.kinds.Row.{Row}
 use Rattle.orders.specs.declared.settings.Settings.{Settings}
-use Rattle.model.specs.Rows.{row_with, add_row, add_rows}
+use Rattle.model.specs.Rows.{row_with, add_rows}
 use Rattle.desk.specs.Matching.{RowsMade, with_share}
-use Rattle.desk.proofs.RowPlaces.{lots_add_row, more_rows, same_later}
+use Rattle.desk.proofs.RowPlaces.{lots_add_row, more_rows, rows_long, same_later}
+use Rattle.desk.proofs.Spreading.{Turn}
 
 lots_row_with : (s : Settings) (d : Direction) (n : ℕ) (orders : List Order) (k lots : ℕ) → (row_with s d n orders k lots).lots ≡ lots
 lots_row_with s Deposit n orders k lots = refl
@@ -21,35 +22,6 @@ abbrev pub row_lots : List Row → ℕ
 row_lots rows = sum_by (λ r. r.lots) rows
 
 module _ (s : Settings) (d : Direction) (n : ℕ) (orders : List Order) where
-  -- a share of 0 makes no row, any other is a conclusion
-  share_none : (k lots : ℕ) (rows : List Row) → lots ≡ 0 → with_share s d n orders k lots rows ≡ rows
-  unfolding with_share
-  share_none k lots rows is = cond-true (eqb lots 0) rows _ (eq-eqb lots 0 is)
-
-  pub share_some : (k lots : ℕ) (rows : List Row) → (lots ≡ 0 → ⊥) → with_share s d n orders k lots rows ≡ add_row (row_with s d n orders k lots) rows
-  unfolding with_share
-  share_some k lots rows some = cond-false (eqb lots 0) rows _ (ne_eqb lots 0 some)
-
-  pub nothing_made : (k lots : ℕ) (rows : List Row) (made : ℕ) → made ≤ length rows → lots ≡ 0
-      → RowsMade (with_share s d n orders k lots (take made rows)) rows rows made
-  nothing_made k lots rows made inside is =
-      subst (λ (whole : List Row). RowsMade whole rows rows made) (sym (share_none k lots (take made rows) is))
-      (record { count = sym (length-take-le made rows inside); written = refl; rest = refl })
-
-  -- what a share asks for is what its conclusion asks for
-  pub record Asks (row : Row) (rows : List Row) (made : ℕ) : Type 0 where
-    pub room : length (add_row row (take made rows)) ≤ length rows
-    pub fits : row_lots (take made rows) + row.lots < 2 ^ 32
-
-  pub share_asks : (k lots : ℕ) (row : Row) (rows : List Row) (made : ℕ) → (lots ≡ 0 → ⊥) → row ≡ row_with s d n orders k lots
-      → length (with_share s d n orders k lots (take made rows)) ≤ length rows → row_lots (take made rows) + lots < 2 ^ 32 → Asks row rows made
-  share_asks k lots row rows made some is room fits =
-      subst (λ (r : Row). Asks r rows made) (sym is)
-      (record {
-        room = subst (λ (x : List Row). length x ≤ length rows) (share_some k lots (take made rows) some) room;
-        fits = omega (arith, lots_row_with s d n orders k lots);
-      })
-
   share_more : (k lots : ℕ) (rows : List Row) → length rows ≤ length (with_share s d n orders k lots rows)
   unfolding with_share
   share_more k lots rows =
@@ -81,6 +53,7 @@ module _ (s : Settings) (d : Direction) (n : ℕ) (orders : List Order) where
 pub record Adding (s : Settings) (d : Direction) (n : ℕ) (orders : List Order) (places shares : List ℕ) (before whole : List Row) (i : ℕ) (rows : List Row) (count : ℕ) : Type 0 where
   pub coming : add_rows s d n orders (drop i places) (drop i shares) (take count rows) ≡ whole
   pub inside : count ≤ length rows
+  pub wide : length rows ≡ length before
   pub rest : drop count rows ≡ drop count before
   pub fits : row_lots (take count rows) + sum (drop i shares) < 2 ^ 32
 
@@ -92,35 +65,28 @@ module _ {s : Settings} {d : Direction} {n : ℕ} {orders : List Order} {places 
       let is : take count rows ≡ whole = rw (drop_all i places past) at now.coming in
       record { count = sym (length-take-le count rows now.inside) ∙ ap length is; written = is; rest = now.rest }
 
-  module _ (here : i < length places) (there : i < length shares) where
+  module _ (k lots : ℕ) (turn : Turn places shares i k lots) where
     abbrev next : List Row
-    next = with_share s d n orders (get_or places i 0) (get_or shares i 0) (take count rows)
+    next = with_share s d n orders k lots (take count rows)
 
     next_coming : add_rows s d n orders (drop (i + 1) places) (drop (i + 1) shares) next ≡ whole
     unfolding add_rows with_share
-    next_coming = rw (drop_more places i 0 here, drop_more shares i 0 there) at now.coming
+    next_coming = rw (turn.2 0, turn.3 0) (rw (drop_more places i 0 turn.0, drop_more shares i 0 turn.1) at now.coming)
 
-    pub adding_fits : row_lots (take count rows) + get_or shares i 0 < 2 ^ 32
-    adding_fits = omega (arith, now.fits, sum_by-drop_more (λ (x : ℕ). x) shares i 0 there)
+    next_sum : sum (drop i shares) ≡ lots + sum (drop (i + 1) shares)
+    next_sum = omega (arith, sum_by-drop_more (λ (x : ℕ). x) shares i 0 turn.1, turn.3 0)
 
     pub adding_room : length whole ≤ length rows → length next ≤ length rows
     adding_room room = omega (arith, all_more s d n orders (drop (i + 1) places) (drop (i + 1) shares) next, ap length next_coming)
 
-    pub adding_more : (after : List Row) (r : ℕ) → length whole ≤ length rows → length after ≡ length rows → RowsMade next rows after r
+    pub adding_more : (after : List Row) (r : ℕ) → length whole ≤ length rows → r ≤ length after → RowsMade next rows after r
         → Adding s d n orders places shares before whole (i + 1) after r
-    adding_more after r room long made =
-        let later : count ≤ r =
-        omega (arith, made.count, share_more s d n orders (get_or places i 0) (get_or shares i 0) (take count rows), length-take-le count rows now.inside) in
+    adding_more after r room within made =
+        let later : count ≤ r = omega (arith, made.count, share_more s d n orders k lots (take count rows), length-take-le count rows now.inside) in
         record {
           coming = rw made.written next_coming;
-          inside = omega (arith, made.count, adding_room room);
+          inside = within;
+          wide = omega (arith, now.wide, rows_long made (omega (arith, made.count, adding_room room)) within);
           rest = made.rest ∙ same_later count r rows before later now.rest;
-          fits =
-              omega (
-                arith,
-                now.fits,
-                ap row_lots made.written,
-                share_lots s d n orders (get_or places i 0) (get_or shares i 0) (take count rows),
-                sum_by-drop_more (λ (x : ℕ). x) shares i 0 there,
-              );
+          fits = omega (arith, now.fits, ap row_lots made.written, share_lots s d n orders k lots (take count rows), next_sum);
         }

@@ -1,6 +1,6 @@
 -- The orders at the best rate, in a sound market.
-use Rattle.std.proofs.Common.{◌≡◌, ℕ, ◌*◌, ◌<◌, ◌≤◌, Bool, true, false, cond, ◌&&◌, eqb, ◌⊎◌, List, [], ◌∷◌, length, Some, None, count_by, filter, refl, ap, ◌∙◌, inl, inr, mul-le-mul_right, arith}
-use Rattle.std.specs.List.{AllByRecursion}
+use Rattle.std.proofs.Common.{◌≡◌, ℕ, ◌*◌, ◌<◌, ◌≤◌, Bool, true, false, eqb, ◌⊎◌, List, [], ◌∷◌, length, Some, None, count_by, filter, refl, ap, ◌∙◌, inl, inr, mul-le-mul_right, arith}
+use Rattle.std.specs.List.{All, AllByRecursion}
 use Rattle.std.proofs.ByRecursion.{All-get_or, all_kept_by}
 use Rattle.std.proofs.lemmas.Bool.{cases_lt}
 use Rattle.std.proofs.lemmas.Bool.Decides.{nat_tests}
@@ -12,7 +12,8 @@ use Rattle.model.specs.Market.{Market, best, front, meets, offers, order_at, rat
 use Rattle.model.specs.Rounds.{empty, share_at}
 use Rattle.model.proofs.Places.{all_from_counted, count_kept, share_within}
 use Rattle.model.specs.Sound.{SoundMarket}
-use Rattle.desk.specs.Matching.{Fit, PlacesOf, best_of, market_of, places_at}
+use Rattle.model.proofs.AllRounds.{kept_twice}
+use Rattle.desk.specs.Matching.{Fit, best_of, market_of, places_at}
 
 -- each place of the queue is that of an order
 all_queued : (m : Market) → SoundMarket m → AllByRecursion (λ k. k < length m.orders) m.queue
@@ -22,13 +23,13 @@ all_queued m sound = all_from_counted (λ k. k < length m.orders) m.queue (λ k 
     by_place k some (inl inside) = inside
     by_place k some (inr outside) = absurd (omega (arith, sound.inside k outside))
 
-pub queue_places : (m : Market) → SoundMarket m → PlacesOf (length m.orders) m.queue
-queue_places m sound i inside = All-get_or (λ k. k < length m.orders) m.queue i 0 inside (all_queued m sound)
+pub queue_places : (m : Market) → SoundMarket m → All (λ k. k < length m.orders) m.queue
+queue_places m sound i d inside = All-get_or (λ k. k < length m.orders) m.queue i d inside (all_queued m sound)
 
-pub front_places : (s : Settings) (e : Terms) (m : Market) → SoundMarket m → PlacesOf (length m.orders) (front s e m)
+pub front_places : (s : Settings) (e : Terms) (m : Market) → SoundMarket m → All (λ k. k < length m.orders) (front s e m)
 unfolding front offers
-front_places s e m sound i inside =
-    All-get_or (λ k. k < length m.orders) (front s e m) i 0 inside
+front_places s e m sound i d inside =
+    All-get_or (λ k. k < length m.orders) (front s e m) i d inside
     (all_kept_by (λ k. eqb (resting_rate s (order_at m.orders k)) (best e.direction (rates_at s m.orders (offers e m)))) (λ k. k < length m.orders) (offers e m)
     (all_kept_by (λ k. meets e (order_at m.orders k)) (λ k. k < length m.orders) m.queue (all_queued m sound)))
 
@@ -59,20 +60,9 @@ front_fit s e m q shares sound divides k inside =
       omega (arith, (sound.orders k inside).whole, (sound.orders k inside).most),
     )
 
--- a test of what another keeps
-kept_twice : (p q : ℕ → Bool) (places : List ℕ) → filter p (filter q places) ≡ filter (λ k. q k && p k) places
-kept_twice p q [] = refl
-kept_twice p q (k ∷ ks) = by_tests (q k) (p k) refl (kept_twice p q ks)
-  where
-    by_tests : (x y : Bool) → p k ≡ y → filter p (filter q ks) ≡ filter (λ k. q k && p k) ks
-        → filter p (cond x (k ∷ filter q ks) (filter q ks)) ≡ cond (x && y) (k ∷ filter (λ k. q k && p k) ks) (filter (λ k. q k && p k) ks)
-    by_tests true true is rest = rw (is, rest) refl
-    by_tests true false is rest = rw is rest
-    by_tests false y is rest = rest
-
 -- the best of some rates
 best_is : (d : Direction) (rates : List ℕ) (rate : ℕ) → Some rate ≡ best_of d rates → best d rates ≡ rate
-best_is d [] rate is = let z : ◌≡◌ {A = ℕ} 0 1 = cc in absurd (omega arith)
+best_is d [] rate is = cc
 best_is d (r ∷ rates) rate is = cc
 
 -- the orders at the best rate
@@ -83,7 +73,7 @@ unfolding front offers places_at
 front_at s e m rate is =
     let rate_is : best e.direction (rates_at s m.orders (offers e m)) ≡ rate = best_is e.direction (rates_at s m.orders (offers e m)) rate is in
     ap (λ (r : ℕ). filter (λ k. eqb (resting_rate s (order_at m.orders k)) r) (offers e m)) rate_is
-    ∙ kept_twice (λ k. eqb (resting_rate s (order_at m.orders k)) rate) (λ k. meets e (order_at m.orders k)) m.queue
+    ∙ kept_twice (λ k. eqb (resting_rate s (order_at m.orders k)) rate) (λ k. meets e (order_at m.orders k)) _ (λ _. refl) m.queue
 
 -- some order may be met
 pub best_offers : (s : Settings) (e : Terms) (m : Market) (rate : ℕ)
@@ -93,7 +83,7 @@ unfolding offers
 best_offers s e m rate is = some_offer (offers e m) is
   where
     some_offer : (places : List ℕ) → Some rate ≡ best_of e.direction (rates_at s m.orders places) → empty places ≡ false
-    some_offer [] is = let z : ◌≡◌ {A = ℕ} 0 1 = cc in absurd (omega arith)
+    some_offer [] is = cc
     some_offer (k ∷ ks) is = refl
 
 -- or none may
@@ -105,4 +95,4 @@ none_offers s e m is = no_offer (offers e m) is
   where
     no_offer : (places : List ℕ) → None ≡ best_of e.direction (rates_at s m.orders places) → empty places ≡ true
     no_offer [] is = refl
-    no_offer (k ∷ ks) is = let z : ◌≡◌ {A = ℕ} 0 1 = cc in absurd (omega arith)
+    no_offer (k ∷ ks) is = cc

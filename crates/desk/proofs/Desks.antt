@@ -1,70 +1,30 @@
 -- The state of a desk.
-use Rattle.std.proofs.Common.{◌≡◌, ℕ, pred, ◌-◌, ◌<◌, ◌≤◌, Bool, true, false, ◌⊎◌, List, length, take, Some, None, Option, sym, refl, ap, ◌∙◌, subst, inl, inr, sub-one, arith}
-use Rattle.std.proofs.lemmas.List.{get_or-map, get_or-take, length-take, length-take-le}
-use Rattle.std.proofs.lemmas.Bool.Decides.{nat_tests}
+use Rattle.std.proofs.Common.{◌+◌, List, ◌≡◌, ℕ, zero, suc, length, refl, ◌∙◌, subst, arith}
 use Rattle.orders.specs.declared.kinds.Order.{Order}
-use Rattle.model.specs.CloseLaw.{unstated}
+use Rattle.orders.specs.declared.kinds.Row.{Row}
+use Rattle.model.specs.Rounds.{Meeting}
+use Rattle.desk.specs.Entry.{day_met}
+use Rattle.desk.specs.Matching.{Stands}
+use Rattle.model.specs.Choices.{total}
 use Rattle.model.specs.Days.{Day}
-use Rattle.model.specs.Market.{none, order_at}
-use Rattle.model.specs.Sound.{LawfulDay}
-use Rattle.model.specs.States.{day_of}
-use Rattle.model.specs.declared.state.DayState.{DayState}
-use Rattle.desk.specs.Kept.{Sound}
-use Rattle.desk.specs.Statements.{numbered, stated_of, statement_line, unnumbered}
-use Rattle.model.proofs.Reached.{lawful_out}
-
-pub sound_of : (s : DayState) → s.count ≤ 128 → length (day_of s).orders ≡ s.count → ∥ LawfulDay (day_of s) ∥₁ → Sound s
-sound_of s few long lawful = record { few = few; long = long; lawful = lawful_out (day_of s) lawful }
-
--- a number of no order
-pub not_found : (count : ℕ) (orders : List Order) (n : ℕ) → ((n ≡ 0) ⊎ (count < n)) → None ≡ numbered (take count orders) n
-not_found count orders n way = rw (none way) refl
-  where
-    none : ((n ≡ 0) ⊎ (count < n)) → unnumbered (take count orders) n ≡ true
-    none (inl zero) = grind (arith, nat_tests)
-    none (inr past) = let few = length-take count orders in grind (arith, nat_tests)
-
--- a number of an order
-pub found : (count : ℕ) (orders : List Order) (n : ℕ) → 1 ≤ n → n ≤ count → count ≤ length orders → Some (order_at orders (n - 1)) ≡ numbered (take count orders) n
-found count orders n some within inside =
-    let long = length-take-le count orders inside in
-    let known : unnumbered (take count orders) n ≡ false = grind (arith, nat_tests) in
-    rw (known, sym (sub-one n)) (ap Some (sym (get_or-take count orders (n - 1) none (omega arith))))
-
-or_else : Order → Option Order → Order
-or_else d None = d
-or_else d (Some o) = o
-
--- the line of the statement for an order that was found
-pub stated_found : (orders : List Order) (n : ℕ) (o : Order) → numbered orders n ≡ Some o → Some (statement_line o) ≡ stated_of orders n
-unfolding or_else
-stated_found orders n o is = by (unnumbered orders n) refl
-  where
-    by : (b : Bool) → unnumbered orders n ≡ b → Some (statement_line o) ≡ stated_of orders n
-    by true unknown = let z : ◌≡◌ {A = ℕ} 0 1 = cc in absurd (omega arith)
-    by false known =
-        let same : order_at orders (pred n) ≡ o = ap (or_else none) (rw known at is) in
-        let inside : pred n < length orders = grind (arith, nat_tests) in
-        rw known (ap Some (ap statement_line (sym same) ∙ sym (get_or-map statement_line orders (pred n) none unstated inside)))
-
--- an order that was found has no more lots withdrawn than it asked for
-pub found_sound : (s : DayState) (n : ℕ) (o : Order) → Sound s → numbered (day_of s).orders n ≡ Some o → o.withdrawn ≤ o.terms.sum
-unfolding or_else
-found_sound s n o sound is = by (unnumbered (day_of s).orders n) refl
-  where
-    by : (b : Bool) → unnumbered (day_of s).orders n ≡ b → o.withdrawn ≤ o.terms.sum
-    by true unknown = let z : ◌≡◌ {A = ℕ} 0 1 = cc in absurd (omega arith)
-    by false known =
-        let same : order_at (day_of s).orders (pred n) ≡ o = ap (or_else none) (rw known at is) in
-        let inside : pred n < length (day_of s).orders = grind (arith, nat_tests) in
-        subst (λ (x : Order). x.withdrawn ≤ x.terms.sum) same (omega (arith, (sound.lawful.market.orders (pred n) inside).whole))
-
--- what a desk keeps of its state
-pub record Keeps (s : DayState) : Type 0 where
-  pub few : s.count ≤ 128
-  pub long : length (day_of s).orders ≡ s.count
-  pub lawful : ∥ LawfulDay (day_of s) ∥₁
+use Rattle.model.specs.Market.{Market}
+use Rattle.model.specs.Sound.{LawfulDay, SoundMarket}
+use Rattle.model.proofs.Places.{length_total}
+use Rattle.model.proofs.Totals.{total_same}
 
 -- it is kept by a call that leaves the day of an outcome which is lawful
-pub keeps : (s : DayState) → s.count ≤ 128 → length (day_of s).orders ≡ s.count → (d : Day) → LawfulDay d → d ≡ day_of s → Keeps s
-keeps s few long d lawful is = record { few = few; long = long; lawful = ∣ subst LawfulDay is lawful ∣₁ }
+pub keeps : (left d : Day) → LawfulDay d → d ≡ left → ∥ LawfulDay left ∥₁
+keeps left d lawful is = ∣ subst LawfulDay is lawful ∣₁
+
+total_ones : (n : ℕ) → total n (λ k. 1) ≡ n
+total_ones zero = refl
+total_ones (suc n) = let rest = total_ones n in omega (arith, rest)
+
+-- the queue has each order's place once
+pub queue_long : (m : Market) → SoundMarket m → length m.queue ≡ length m.orders
+queue_long m sound = length_total (length m.orders) m.queue sound.inside ∙ total_same (length m.orders) _ (λ _. 1) sound.queued ∙ total_ones (length m.orders)
+
+-- the day that an entry leaves
+pub day_met_lem : (d : Day) (met : Meeting) (orders : List Order) (queue : List ℕ) (before after : List Row) (made : ℕ) → Stands met.market orders queue before after made
+    → record { settings = d.settings; clock = d.clock; orders = orders; queue = queue; used = d.used + made } ≡ day_met d met
+day_met_lem d met orders queue before after made stands = rw (stands.ordered, stands.queued, stands.rows.count) refl

@@ -1,6 +1,5 @@
 pub mod Passes
 pub mod Tables
-pub mod Keeping
 pub mod Withdrawals
 pub mod Releasing
 pub mod Activations
@@ -9,7 +8,6 @@ pub mod Closings
 pub mod Dues
 pub mod Ladders
 pub mod BestOffer
-pub mod Gathering
 pub mod Collecting
 pub mod Parting
 pub mod Spreading
@@ -21,6 +19,5 @@ pub mod BestPlaces
 pub mod RoundFacts
 pub mod Underway
 mod Desks
-pub mod Entries
 mod Reports
 pub mod Placements

@@ -1,6 +1,5 @@
 -- Place, refused or accepted.
-use Rattle.std.proofs.Common.{◌≡◌, ℕ, ◌+◌, ◌-◌, ◌<◌, ◌≤◌, Bool, true, false, cond, List, [], ◌∷◌, length, take, set, Some, None, sym, refl, ap, ◌∙◌, arith}
-use Rattle.std.proofs.lemmas.List.{length-take-le, take_more_set}
+use Rattle.std.proofs.Common.{◌≡◌, ℕ, ◌+◌, ◌-◌, ◌<◌, ◌≤◌, Bool, true, false, cond, List, [], ◌∷◌, length, Some, None, sym, refl, ap, ◌∙◌, arith}
 use Rattle.std.proofs.lemmas.List.Sums.{sum_by-cons}
 use Rattle.std.proofs.lemmas.Bool.{cond-false}
 use Rattle.clearing.specs.Book.{Book, can_reserve, can_release, reserved, released}
@@ -26,24 +25,17 @@ use Rattle.model.proofs.Tables.{Passed, none_below, passed}
 use Rattle.desk.specs.Entry.{day_met, day_with, meeting_in}
 use Rattle.desk.specs.Inside.{place_inside, placed_inside}
 use Rattle.desk.specs.Judging.{place_tests}
-use Rattle.desk.specs.Kept.{Kept, Sound}
+use Rattle.desk.specs.Kept.{Sound}
 use Rattle.desk.specs.Worlds.{world_of}
 use Rattle.desk.proofs.Tables.{place_covered, place_refused}
 use Rattle.desk.proofs.Withdrawals.{judged_none, judged_some}
-
--- one more order in the arrays
-pub day_pushed : (d : Day) (orders : List Order) (queue : List ℕ) (count : ℕ) (o : Order) → count < length orders → count < length queue
-    → record { settings = d.settings; clock = d.clock; orders = take (count + 1) (set orders count o); queue = take (count + 1) (set queue count count); used = d.used }
-    ≡ day_with (record { settings = d.settings; clock = d.clock; orders = take count orders; queue = take count queue; used = d.used }) o
-day_pushed d orders queue count o inside within =
-    rw (take_more_set orders count o inside, take_more_set queue count count within, length-take-le count orders (omega arith)) refl
 
 -- every order is registered in one of the two directions
 one_direction : (d : Direction) → cond (same_direction Deposit d) 1 0 + cond (same_direction Repo d) 1 0 ≡ 1
 one_direction Deposit = refl
 one_direction Repo = refl
 
-all_registered : (orders : List Order) → registered Deposit orders + registered Repo orders ≡ length orders
+pub all_registered : (orders : List Order) → registered Deposit orders + registered Repo orders ≡ length orders
 all_registered [] = refl
 all_registered (o ∷ os) =
     omega (
@@ -139,9 +131,9 @@ module _ (rule : Rule) (p : ℕ) (e : Terms) (w : World) where
             a ∙ sym (accepts_inside m ∙ rw (early, placed_inside, before, sym still, sym n, sym l, sym out) refl)
 
 -- an order that passed finds a place in the arrays, and room for its rows
-module _ (s : DayState) (register : List Row) (cover : Book) (p : ℕ) (e : Terms) (sound : Sound s) (kept : Kept s) (is : Passed (world_of s register cover) p e) where
-  pub place_left : s.count < 128
-  place_left = omega (arith, kept.long, room_left e.direction (day_of s).orders sound.lawful.market.few is.few)
+module _ (s : DayState) (register : List Row) (cover : Book) (p : ℕ) (e : Terms) (sound : Sound s) (is : Passed (world_of s register cover) p e) where
+  pub place_left : length (day_of s).orders < 128
+  place_left = room_left e.direction (day_of s).orders sound.market.few is.few
 
   pub rows_left : waits_first s.settings.mode e ≡ false → s.used + opposite e.direction (day_of s).orders ≤ length register
-  rows_left early = omega (arith, is.room early, is.register, sound.lawful.within)
+  rows_left early = omega (arith, is.room early, is.register, sound.within)

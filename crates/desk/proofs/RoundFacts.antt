@@ -1,8 +1,7 @@
 -- What a round asks for and does, in a sound market and by a lawful rule.
-use Rattle.std.proofs.Common.{◌≡◌, ℕ, ◌+◌, ◌-◌, ◌^◌, ◌<◌, ◌≤◌, min, Bool, true, cond, List, [], length, take, Some, Decides, sum, sym, refl, ap, ◌∙◌, arith}
-use native.Mathlib.Nat.{sub-zero}
+use Rattle.std.proofs.Common.{◌≡◌, ℕ, ◌+◌, ◌^◌, ◌<◌, ◌≤◌, min, List, [], length, Some, sum, sym, refl, ap, ◌∙◌, arith}
+use Rattle.std.specs.List.{All}
 use Rattle.std.proofs.lemmas.List.{length-map}
-use Rattle.std.proofs.lemmas.Bool.{cond-true}
 use Rattle.orders.specs.declared.kinds.Row.{Row}
 use Rattle.orders.specs.declared.kinds.Terms.{Terms}
 use Rattle.orders.specs.declared.settings.Settings.{Settings}
@@ -13,7 +12,7 @@ use Rattle.model.specs.Rounds.{Rule, after_round, round, round_lots, share_at}
 use Rattle.model.specs.Rows.{add_rows}
 use Rattle.model.proofs.OneRound.{round_lawful}
 use Rattle.model.specs.Calls.{LawfulRule}
-use Rattle.desk.specs.Matching.{Fit, PlacesOf, RoundReady, best_of, market_of, places_at}
+use Rattle.desk.specs.Matching.{Fit, RoundReady, best_of, market_of, places_at}
 use Rattle.desk.proofs.AddingRows.{all_lots, all_more, row_lots}
 use Rattle.desk.proofs.BestPlaces.{front_at, front_fit, front_places}
 
@@ -30,18 +29,17 @@ lots_are s e left m sums lots shown is = is ∙ ap (λ (xs : List ℕ). min left
 
 -- what settling a round asks for
 pub record SettleAsks (s : Settings) (e : Terms) (n : ℕ) (m : Market) (rows : List Row) (places shares : List ℕ) : Type 0 where
-  pub listed : PlacesOf (length m.orders) places
+  pub listed : All (λ k. k < length m.orders) places
   pub each : length shares ≡ length places
   pub fit : Fit (λ k. share_at k places shares) m.orders
   pub room : length (add_rows s e.direction n m.orders places shares m.rows) ≤ length rows
   pub fits : row_lots m.rows + sum shares < 2 ^ 32
 
--- the lists that a round works on
-pub record RoundLists (s : Settings) (e : Terms) (m : Market) (places sums : List ℕ) : Type 0 where
-  pub listed : places ≡ front s e m
+-- the visible sums of a round, and its lawful request
+pub record RoundSums (s : Settings) (e : Terms) (left : ℕ) (m : Market) (sums : List ℕ) : Type 0 where
   pub shown : sums ≡ visible_at m.orders (front s e m)
-  pub few : length sums ≤ 64
   pub fit : sum sums < 2 ^ 32
+  pub lawful : Lawful sums (min left (sum sums))
 
 module _ {rule : Rule} {s : Settings} {e : Terms} {n left : ℕ} {m : Market} {rows : List Row} (ready : RoundReady rule s e n left m rows) where
   abbrev asked : List ℕ
@@ -53,19 +51,20 @@ module _ {rule : Rule} {s : Settings} {e : Terms} {n left : ℕ} {m : Market} {r
   pub some_lots : 1 ≤ round_lots s e left m
   some_lots = lawful_request.least
 
-  -- places and sums as they were collected, cut to their number
+  -- the orders at the best rate
   module _ (rate : ℕ) (best : Some rate ≡ best_of e.direction (rates_at s m.orders (offers e (market_of m.orders m.queue [])))) where
     pub few_places : length (places_at s e rate m.orders m.queue) ≤ 64
     few_places =
         omega (arith, lawful_request.few, length-map (front s e m) (λ k. (order_at m.orders k).visible), ap length (front_at s e m rate best))
 
-    pub round_lists : (count : ℕ) (places sums : List ℕ) → take count places ≡ places_at s e rate m.orders m.queue
-        → take count sums ≡ visible_at m.orders (places_at s e rate m.orders m.queue)
-        → RoundLists s e m (take (count - 0) places) (take (count - 0) sums)
-    round_lists count places sums listed visible =
-        let at : places_at s e rate m.orders m.queue ≡ front s e m = sym (front_at s e m rate best) in
-        rw (sub-zero count, listed, visible, at)
-        (record { listed = refl; shown = refl; few = lawful_request.few; fit = lawful_fit asked (round_lots s e left m) lawful_request })
+    pub round_places : (places : List ℕ) → places ≡ places_at s e rate m.orders m.queue → places ≡ front s e m
+    round_places places listed = listed ∙ sym (front_at s e m rate best)
+
+    pub round_sums : (places sums : List ℕ) → places ≡ places_at s e rate m.orders m.queue → sums ≡ visible_at m.orders places → RoundSums s e left m sums
+    unfolding round_lots
+    round_sums places sums listed visible =
+        rw (visible, round_places places listed)
+        (record { shown = refl; fit = lawful_fit asked (round_lots s e left m) lawful_request; lawful = lawful_request })
 
   -- the shares of a lawful rule
   module _ (lawful : LawfulRule rule) where
@@ -96,18 +95,11 @@ module _ {rule : Rule} {s : Settings} {e : Terms} {n left : ℕ} {m : Market} {r
     unfolding round after_round
     round_more = all_more s e.direction n m.orders (front s e m) given m.rows
 
-    -- the rule is asked for the shares of `lots`, and answers
+    -- those of `lots` lots, as the rule gives them
     module _ (places sums : List ℕ) (lots : ℕ) (listed : places ≡ front s e m) (shown : sums ≡ asked) (is : lots ≡ min left (sum sums))
-        (out shares : List ℕ) (answer : Bool) (long : length out ≡ length sums)
-        (decides : Decides answer (Lawful sums lots × (length out ≡ length sums))) (after : shares ≡ cond answer (rule sums lots) out) where
-      divided : lots ≡ round_lots s e left m
-      divided = lots_are s e left m sums lots shown is
-
-      answers : answer ≡ true
-      answers = decides.1 (rw (shown, divided) lawful_request, long)
-
+        (shares : List ℕ) (after : shares ≡ rule sums lots) where
       shares_are : shares ≡ given
-      shares_are = after ∙ cond-true answer (rule sums lots) out answers ∙ rw (shown, divided) refl
+      shares_are = after ∙ rw (shown, lots_are s e left m sums lots shown is) refl
 
       pub round_asks : SettleAsks s e n m rows places shares
       round_asks = rw (listed, shares_are) front_asks

@@ -8,7 +8,7 @@ use Rattle.orders.specs.declared.settings.Settings.{Settings}
 use Rattle.model.specs.Market.{order_at}
 use Rattle.model.specs.Rounds.{after_round, after_share, each_from, refills, share_at}
 use Rattle.model.specs.Rows.{add_rows}
-use Rattle.desk.specs.Matching.{RowsMade, Stands, market_of, part_of, requeued}
+use Rattle.desk.specs.Matching.{RowsMade, Stands, market_of, requeued}
 
 module _ (places shares by_place : List ℕ) (is : (k : ℕ) → get_or by_place k 0 ≡ share_at k places shares) where
   all_is : ◌≡◌ {A = ℕ → ℕ} (λ k. get_or by_place k 0) (λ k. share_at k places shares)
@@ -21,7 +21,7 @@ module _ (places shares by_place : List ℕ) (is : (k : ℕ) → get_or by_place
       → queue_after ≡ requeued by_place orders queue
       → RowsMade (add_rows s e.direction n orders places shares (take made before)) before after r
       → Stands (after_round s e n places shares (market_of orders queue (take made before))) orders_after queue_after before after r
-  unfolding after_round requeued part_of
+  unfolding after_round requeued
   settled s e n orders queue before made orders_after queue_after after r orders_are queue_is rows = record {
     ordered = orders_are ∙ ap (λ (f : ℕ → ℕ). each_from (λ k o. after_share (f k) o) 0 orders) all_is;
     queued =

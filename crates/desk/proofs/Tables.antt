@@ -1,20 +1,14 @@
 -- The first refusal of a table in parts.
-use Rattle.std.proofs.Common.{◌≡◌, ℕ, pred, ◌-◌, ◌<◌, ◌≤◌, Bool, true, false, cond, not, ◌||◌, eqb, ltb, ◌⊎◌, [], ◌∷◌, ◌++◌, length, Some, None, Option, sym, refl, ap, ◌∙◌, inl, inr, sub-one, arith}
-use Rattle.std.proofs.lemmas.Bool.{cond-true, cond-false, or_parts, ltb-false}
+use Rattle.std.proofs.Common.{◌≡◌, ℕ, Bool, true, false, cond, not, eqb, [], ◌∷◌, ◌++◌, length, Some, None, Option, sym, refl, ◌∙◌, arith}
 use Rattle.std.proofs.lemmas.Bool.Decides.{nat_tests}
 use Rattle.clearing.specs.Book.{can_reserve}
-use Rattle.orders.specs.Checks.{lawful_code}
 use Rattle.orders.specs.Table.{Table, first, terms_table}
-use Rattle.orders.specs.declared.kinds.Code.{Code}
 use Rattle.orders.specs.declared.kinds.Terms.{Terms}
 use Rattle.orders.specs.declared.refusals.Refusal.{Refusal}
 use Rattle.orders.specs.declared.refusals.Refusal.TheVariants as refused
 use Rattle.model.specs.Days.{Day, World}
-use Rattle.model.specs.Depth.{depth_table}
-use Rattle.model.specs.Market.{order_at}
 use Rattle.model.specs.Place.{place_table}
-use Rattle.model.specs.Withdraw.{withdraw_table}
-use Rattle.desk.specs.Judging.{own_tests, place_tests, room_tests}
+use Rattle.desk.specs.Judging.{place_tests, room_tests}
 
 -- a refusal of the first part stands
 some_by : (r q : Refusal) (b : Bool) (x y : Option Refusal) → cond b (Some q) x ≡ Some r → (x ≡ Some r → y ≡ Some r) → cond b (Some q) y ≡ Some r
@@ -61,27 +55,3 @@ pub place_covered : (w : World) (p : ℕ) (e : Terms) → first (place_tests w.d
     → first (place_table w p e) ≡ cond (not (can_reserve w.cover p e.sum)) (Some refused.Cover) None
 place_covered w p e is =
     first_none (place_tests w.day (length w.register) p e) ((refused.Cover, not (can_reserve w.cover p e.sum)) ∷ []) is
-
--- a number that stands is refused only for its owner and its state
-pub withdraw_known : (d : Day) (n p : ℕ) → 1 ≤ n → n ≤ length d.orders → first (own_tests (order_at d.orders (n - 1)) p) ≡ first (withdraw_table d n p)
-withdraw_known d n p some within =
-    let known : (eqb n 0 || ltb (length d.orders) n) ≡ false = grind (arith, nat_tests) in
-    ap (λ (k : ℕ). first (own_tests (order_at d.orders k) p)) (sub-one n)
-    ∙ sym (cond-false (eqb n 0 || ltb (length d.orders) n) (Some refused.NoSuchOrder) (first (own_tests (order_at d.orders (pred n)) p)) known)
-
-pub withdraw_unknown : (d : Day) (n p : ℕ) → (n ≡ 0) ⊎ (length d.orders < n) → Some refused.NoSuchOrder ≡ first (withdraw_table d n p)
-withdraw_unknown d n p none =
-    let unknown : (eqb n 0 || ltb (length d.orders) n) ≡ true = elim none [ inl e ↦ grind (arith, nat_tests) | inr l ↦ grind (arith, nat_tests) ] in
-    sym (cond-true (eqb n 0 || ltb (length d.orders) n) (Some refused.NoSuchOrder) (first (own_tests (order_at d.orders (pred n)) p)) unknown)
-
--- a depth that is not refused has room for 20 levels
-none_parts : (q : Refusal) (b : Bool) (x : Option Refusal) → cond b (Some q) x ≡ None → (b ≡ false) × (x ≡ None)
-none_parts q true x e = let z : ◌≡◌ {A = ℕ} 0 1 = cc in absurd (omega arith)
-none_parts q false x e = (refl, e)
-
-pub depth_room : (security : ℕ) (code : Code) (rates totals : ℕ) → first (depth_table security code rates totals) ≡ None → (20 ≤ rates) × (20 ≤ totals)
-depth_room security code rates totals e =
-    let a = (none_parts refused.Code (not (lawful_code code)) (cond (ltb 63 security) (Some refused.Securities) (cond (ltb rates 20 || ltb totals 20) (Some refused.DepthArrays) None)) e).1 in
-    let b = (none_parts refused.Securities (ltb 63 security) (cond (ltb rates 20 || ltb totals 20) (Some refused.DepthArrays) None) a).1 in
-    let parts = or_parts (ltb rates 20) (ltb totals 20) (none_parts refused.DepthArrays (ltb rates 20 || ltb totals 20) None b).0 in
-    (ltb-false rates 20 parts.0, ltb-false totals 20 parts.1)

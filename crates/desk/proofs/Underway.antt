@@ -1,5 +1,6 @@
 -- Where the rounds of an entry have come to.
 use Rattle.std.proofs.Common.{◌≡◌, ℕ, zero, suc, ◌+◌, ◌-◌, ◌<◌, ◌≤◌, true, false, eqb, List, [], length, take, drop, Some, None, sym, refl, ap, ◌∙◌, subst, arith}
+use Rattle.std.specs.List.{All}
 use Rattle.std.proofs.lemmas.List.{length-take-le}
 use Rattle.std.proofs.lemmas.Bool.{eq-eqb, or_left, or_right}
 use Rattle.std.proofs.lemmas.Bool.Decides.{nat_tests}
@@ -13,11 +14,11 @@ use Rattle.model.proofs.AllRounds.{Reached, reached_first, reached_more}
 use Rattle.model.proofs.OneRound.{round_is}
 use Rattle.model.proofs.RowSums.{few_rows}
 use Rattle.model.specs.Calls.{LawfulRule}
-use Rattle.desk.specs.Matching.{EntryReady, PlacesOf, RoundReady, Stands, best_of, market_of}
+use Rattle.desk.specs.Matching.{EntryReady, RoundReady, Stands, best_of, market_of}
 use Rattle.desk.proofs.AddingRows.{row_lots}
 use Rattle.desk.proofs.BestPlaces.{best_offers, none_offers, queue_places}
 use Rattle.desk.proofs.RoundFacts.{lots_within, round_lots_lem, round_more, some_lots}
-use Rattle.desk.proofs.RowPlaces.{same_later}
+use Rattle.desk.proofs.RowPlaces.{rows_long, same_later}
 
 -- rounds stop, or go on
 rounds_stop : (fuel : ℕ) (rule : Rule) (s : Settings) (e : Terms) (n left : ℕ) (m : Market) → stops e left m ≡ true
@@ -61,17 +62,17 @@ underway_first {rule} {s} {e} {n} {orders} {queue} {before} entry = record {
 
 module _ {rule : Rule} {s : Settings} {e : Terms} {n : ℕ} {m : Market} {before : List Row} {left : ℕ} {orders : List Order} {queue : List ℕ} {rows : List Row} {made : ℕ}
     (at : Underway rule s e n m before left orders queue rows made) where
-  abbrev now : Market
+  abbrev pub now : Market
   now = market_of orders queue (take made rows)
 
-  pub underway_places : PlacesOf (length orders) queue
+  pub underway_places : All (λ k. k < length orders) queue
   underway_places = queue_places now at.reached.sound
 
-  pub underway_within : (left ≤ e.sum) × (made ≤ length before)
-  underway_within = (omega (arith, at.reached.whole), omega (arith, at.inside, at.wide))
+  pub underway_within : left ≤ e.sum
+  underway_within = omega (arith, at.reached.whole)
 
   -- rounds stop
-  abbrev Ends : Type 0
+  abbrev pub Ends : Type 0
   Ends = (left ≡ (meeting rule s e n m).left) × Stands (meeting rule s e n m).market orders queue before rows made
 
   ends : stops e left now ≡ true → Ends
@@ -117,9 +118,9 @@ module _ {rule : Rule} {s : Settings} {e : Terms} {n : ℕ} {m : Market} {before
 
       pub underway_more : (orders_after : List Order) (queue_after : List ℕ) (after : List Row) (Made-after : ℕ)
           → Stands (round rule s e n left now) orders_after queue_after rows after Made-after
-          → length orders_after ≡ length orders → length queue_after ≡ length queue → length after ≡ length rows
+          → length orders_after ≡ length orders → length queue_after ≡ length queue → Made-after ≤ length after
           → Underway rule s e n m before (left - lots) orders_after queue_after after Made-after
-      underway_more orders_after queue_after after Made-after stands same_orders same_queue same_rows =
+      underway_more orders_after queue_after after Made-after stands same_orders same_queue within =
           let market : round rule s e n left now ≡ market_of orders_after queue_after (take Made-after after) =
           rw (stands.ordered, stands.queued, stands.rows.written) refl in
           let later : made ≤ Made-after = omega (arith, stands.rows.count, round_more underway_ready lawful, length-take-le made rows at.inside) in
@@ -129,8 +130,8 @@ module _ {rule : Rule} {s : Settings} {e : Terms} {n : ℕ} {m : Market} {before
             enough = omega (arith, at.enough, underway_less);
             goes = rw (lots_is, sym market) (one_less at.fuel at.enough at.goes);
             long = omega (arith, at.long);
-            wide = omega (arith, at.wide);
-            inside = omega (arith, stands.rows.count, underway_ready.room);
+            wide = omega (arith, at.wide, rows_long stands.rows (omega (arith, stands.rows.count, underway_ready.room)) within);
+            inside = within;
             rest = stands.rows.rest ∙ same_later made Made-after rows before later at.rest;
             fits = omega (arith, at.fits, lots_within s e left now lots lots_is, ap row_lots stands.rows.written, round_lots_lem underway_ready lawful);
           }

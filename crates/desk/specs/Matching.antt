@@ -1,12 +1,12 @@
 -- What the steps of a round compute, and what they ask for.
-use Rattle.std.specs.Prelude.{◌≡◌, ℕ, ◌+◌, ◌^◌, ◌<◌, ◌≤◌, Bool, true, false, cond, not, ◌&&◌, List, [], ◌∷◌, ◌++◌, length, take, drop, Some, None, sum_by, filter, Option, ◌==◌, slice_index}
+use Rattle.std.specs.Prelude.{◌≡◌, ℕ, ◌+◌, ◌^◌, ◌<◌, ◌≤◌, Bool, false, cond, not, ◌&&◌, List, [], ◌∷◌, ◌++◌, length, take, drop, Some, None, sum_by, filter, Option, ◌==◌, slice_index}
 use Rattle.orders.specs.declared.kinds.Direction.{Direction}
 use Rattle.orders.specs.declared.kinds.Order.{Order}
 use Rattle.orders.specs.declared.kinds.Row.{Row}
 use Rattle.orders.specs.declared.kinds.Terms.{Terms}
 use Rattle.orders.specs.declared.settings.Settings.{Settings}
 use Rattle.model.specs.Sound.{SoundMarket}
-use Rattle.model.specs.Market.{Market, order_at, lots_of, meets, offers, resting_rate, better, best}
+use Rattle.model.specs.Market.{Market, order_at, lots_of, meets, offers, resting_rate, best}
 use Rattle.model.specs.Place.{opposite}
 use Rattle.model.specs.Rounds.{Rule, empty, refills, round}
 use Rattle.model.specs.Rows.{add_row, row_with}
@@ -15,23 +15,10 @@ use Rattle.model.specs.Rows.{add_row, row_with}
 abbrev pub market_of : List Order → List ℕ → List Row → Market
 market_of orders queue rows = record { orders = orders; queue = queue; rows = rows }
 
--- these are places of n orders
-abbrev pub PlacesOf : ℕ → List ℕ → Type 0
-PlacesOf n places = (i : ℕ) → i < length places → slice_index places i < n
-
 -- the best of some rates, if there are any
 abbrev pub best_of : Direction → List ℕ → Option ℕ
 best_of d [] = None
 best_of d (r ∷ rs) = Some (best d (r ∷ rs))
-
--- the better of the best rate so far, if there is one, and another
-abbrev pub better_of : Direction → Option ℕ → ℕ → ℕ
-better_of d None rate = rate
-better_of d (Some r) rate = better d r rate
-
--- the best rate so far, with one more order
-abbrev pub with_order : Settings → Terms → Option ℕ → Order → Option ℕ
-with_order s e best o = cond (meets e o) (Some (better_of e.direction best (resting_rate s o))) best
 
 -- the entering order may meet a resting one, at this rate
 abbrev pub at_rate : Settings → Terms → ℕ → Order → Bool
@@ -49,14 +36,9 @@ Fit share orders = (k : ℕ) → k < length orders → (share k ≤ (order_at or
 abbrev pub SharesFit : List ℕ → List Order → Type 0
 SharesFit shares orders = Fit (λ k. slice_index shares k) orders
 
--- the order at a place is in the part that shows lots again after their shares, or in the other
-abbrev pub in_part : Bool → List ℕ → List Order → ℕ → Bool
-in_part again shares orders k =
-    cond again (refills (slice_index shares k) (order_at orders k)) (not (refills (slice_index shares k) (order_at orders k)))
-
--- the places of such a part, in queue order
-unfoldable pub part_of : Bool → List ℕ → List Order → List ℕ → List ℕ
-part_of again shares orders queue = filter (in_part again shares orders) queue
+-- the order at a place shows lots again after its share
+abbrev pub shows_again : List ℕ → List Order → ℕ → Bool
+shows_again shares orders k = refills (slice_index shares k) (order_at orders k)
 
 -- the first n rows are these, and the others are as they were
 pub record RowsMade (made before after : List Row) (n : ℕ) : Type 0 where
@@ -70,7 +52,7 @@ with_share s d n orders k lots rows = cond (lots == 0) rows (add_row (row_with s
 
 -- the queue with those that show lots again after their shares at the end, in queue order
 unfoldable pub requeued : List ℕ → List Order → List ℕ → List ℕ
-requeued shares orders queue = part_of false shares orders queue ++ part_of true shares orders queue
+requeued shares orders queue = filter (λ k. not (shows_again shares orders k)) queue ++ filter (shows_again shares orders) queue
 
 -- the orders and the queue are those of this market, and the first rows are its rows
 pub record Stands (m : Market) (orders : List Order) (queue : List ℕ) (before after : List Row) (made : ℕ) : Type 0 where

@@ -23,6 +23,10 @@ stated_as line = option_map stated line
 abbrev pub unnumbered : List Order → ℕ → Bool
 unnumbered orders n = n == 0 || nat_lt (length orders) n
 
+-- the place of the order with a number, if there is one
+abbrev pub place_of : List Order → ℕ → Option ℕ
+place_of orders n = cond (unnumbered orders n) None (Some (pred n))
+
 -- the order with a number, if there is one
 abbrev pub numbered : List Order → ℕ → Option Order
 numbered orders n = cond (unnumbered orders n) None (Some (order_at orders (pred n)))

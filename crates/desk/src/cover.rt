@@ -1,4 +1,5 @@
 //! What a day asks of its clearing.
+// Apart from `place` and the rest, so that each is refused for any number of lots, 0 too, which no order that is placed has.
 ghost use Rattle.std.specs.Prelude.{◌≡◌, if◌then◌else◌};
 ghost use Rattle.clearing.specs.Book.{can_release, can_reserve, released, reserved};
 ghost use Rattle.clearing.specs.Makeup.{returned, taken};

@@ -1,4 +1,5 @@
 //! An order that enters a day.
+// These steps leave the day unlawful until the order is registered or put back, so they require what they need of it.
 ghost use Rattle.std.specs.Prelude.{◌≡◌, ◌+◌, ◌≤◌, [], length, take};
 ghost use Rattle.desk.specs.Entry.{day_met, meeting_in};
 ghost use Rattle.desk.specs.Kept.{Sound};
@@ -8,35 +9,40 @@ ghost use Rattle.model.specs.Place.{opposite};
 ghost use Rattle.model.specs.Rounds.{meeting};
 ghost use Rattle.model.specs.States.{day_of};
 
-use crate::matching::{Entering, Met, meet};
-use model::DayState;
+use crate::matching::{Entering, Rows};
+use arrayvec::ArrayVec;
+use model::{DayState, MOST_ORDERS};
 use orders::{Order, Row, Terms};
 use sharing::SharingRule;
 
-/// Lets an order meet the first `count` orders. Its rows go to the front of `rows`.
-fn meet_first<R: SharingRule>(
+/// What an entry left: the lots left of the order that entered, and how many rows it made.
+#[derive(Clone, Copy)]
+struct Met {
+    left: u32,
+    made: usize,
+}
+
+/// Lets an order meet the queue of some orders. Its rows go to the front of `rows`.
+// Apart from `enter`: of rows that are made and let go in one function a proof knows the register's length alone.
+fn meet_queue<R: SharingRule>(
     rule: &R,
     entering: &Entering,
-    orders: &mut [Order; 128],
-    queue: &mut [u8; 128],
-    count: usize,
+    orders: &mut ArrayVec<Order, MOST_ORDERS>,
+    queue: &mut ArrayVec<u8, MOST_ORDERS>,
     rows: &mut [Row],
 ) -> Met
-    requires few { count ≤ 128 }
-    requires ready { EntryReady entering.now.terms (market_of (take count orders.old) (take count queue.old) []) rows.old }
-    ensures left { result.left ≡ (meeting (R.SharingRule.shares rule.now) entering.now.settings entering.now.terms entering.now.number (market_of (take count orders.old) (take count queue.old) [])).left }
-    ensures market { Stands (meeting (R.SharingRule.shares rule.now) entering.now.settings entering.now.terms entering.now.number (market_of (take count orders.old) (take count queue.old) [])).market (take count orders.new) (take count queue.new) rows.old rows.new result.made }
+    requires { EntryReady entering.now.terms (market_of orders.old.items queue.old.items []) rows.old }
+    ensures left { result.left ≡ (meeting (R.SharingRule.shares rule.now) entering.now.settings entering.now.terms entering.now.number (market_of orders.old.items queue.old.items [])).left }
+    ensures market { Stands (meeting (R.SharingRule.shares rule.now) entering.now.settings entering.now.terms entering.now.number (market_of orders.old.items queue.old.items [])).market orders.new.items queue.new.items rows.old rows.new result.made }
+    ensures same { (length orders.new.items ≡ length orders.old.items) × (length queue.new.items ≡ length queue.old.items) }
     ensures within { (result.left ≤ entering.now.terms.sum) × (result.made ≤ length rows.old) }
 {
-    meet(
-        rule,
-        &entering.settings,
-        &entering.terms,
-        entering.number,
-        &mut orders[0..count],
-        &mut queue[0..count],
-        rows,
-    )
+    let mut rows = Rows { all: rows, made: 0 };
+    let left = entering.meet(rule, orders.as_mut_slice(), queue.as_mut_slice(), &mut rows);
+    Met {
+        left,
+        made: rows.made,
+    }
 }
 
 /// Lets the order with these terms and this number meet the queue. Its rows go to the register from the first free one on. Returns the lots left of it.
@@ -52,7 +58,8 @@ pub(crate) fn enter<R: SharingRule>(
     requires room { state.old.used + opposite terms.now.direction (day_of state.old).orders ≤ length register.old }
     ensures left { result ≡ (meeting_in (R.SharingRule.shares rule.now) (day_of state.old) terms.now number).left }
     ensures day { day_of state.new ≡ day_met (day_of state.old) (meeting_in (R.SharingRule.shares rule.now) (day_of state.old) terms.now number) }
-    ensures count { state.new.count ≡ state.old.count }
+    ensures orders { length (day_of state.new).orders ≡ length (day_of state.old).orders }
+    ensures queue { length (day_of state.new).queue ≡ length (day_of state.old).queue }
     ensures register { register.new ≡ written register.old state.old.used (meeting_in (R.SharingRule.shares rule.now) (day_of state.old) terms.now number).market.rows }
     ensures within { result ≤ terms.now.sum }
 {
@@ -61,12 +68,11 @@ pub(crate) fn enter<R: SharingRule>(
         terms: *terms,
         number,
     };
-    let met = meet_first(
+    let met = meet_queue(
         rule,
         &entering,
         &mut state.orders,
         &mut state.queue,
-        state.count,
         &mut register[state.used..],
     );
     state.used += met.made;

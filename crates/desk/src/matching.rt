@@ -1,6 +1,7 @@
 //! How an order that enters meets the queue.
+// The orders and their queue stay two parameters: a struct of both `&mut` was tried and is no plainer, since each method then promises that both references and the number of orders stay.
 use orders::{Settings, Terms};
-pub(crate) use rounds::meet;
+pub(crate) use rows::Rows;
 
 mod divide;
 mod front;
@@ -19,18 +20,4 @@ pub(crate) struct Entering {
     pub(crate) settings: Settings,
     pub(crate) terms: Terms,
     pub(crate) number: u32,
-}
-
-/// What a round left: the lots it divided, and how many rows there are.
-#[derive(Clone, Copy)]
-struct Round {
-    lots: u32,
-    made: usize,
-}
-
-/// What an entry left: the lots left of the order that entered, and how many rows it made.
-#[derive(Clone, Copy)]
-pub(crate) struct Met {
-    pub(crate) left: u32,
-    pub(crate) made: usize,
 }

@@ -1,4 +1,5 @@
 //! Orders that are placed: registered, covered, and met with the queue unless they wait.
+// The two steps on the bare state are lawful only for an order that was judged, so they require what they need of it.
 ghost use Rattle.std.specs.Prelude.{◌≡◌, ◌+◌, ◌-◌, ◌<◌, ◌≤◌, length};
 ghost use Rattle.desk.specs.Entry.{day_met, day_with, meeting_in};
 ghost use Rattle.desk.specs.Inside.{place_inside};
@@ -10,8 +11,8 @@ ghost use Rattle.model.specs.States.{day_of};
 ghost use Rattle.orders.specs.Answers.{place_answer};
 
 use crate::cover::{release_lots, reserve_lots};
+use crate::desk::Desk;
 use crate::entry::enter;
-use crate::judging::judge_place;
 use clearing::Clearing;
 use model::DayState;
 use orders::{
@@ -21,81 +22,82 @@ use sharing::SharingRule;
 
 /// Registers one more order, last in the queue.
 fn push_order(state: &mut DayState, order: Order)
-    requires { state.old.count < 128 }
-    ensures day { day_of state.new ≡ day_with (day_of state.old) order }
-    ensures count { state.new.count ≡ state.old.count + 1 }
-    ensures few { state.new.count ≤ 128 }
-    ensures long { length (day_of state.new).orders ≡ state.new.count }
+    requires few { length (day_of state.old).orders < 128 }
+    requires queued { length (day_of state.old).queue < 128 }
+    ensures { day_of state.new ≡ day_with (day_of state.old) order }
 {
-    state.orders[state.count] = order;
-    state.queue[state.count] = state.count as u8;
-    state.count += 1;
+    // `as`, and no `try_from`, which could not fail: there is room for one more of 128.
+    state.queue.push(state.orders.len() as u8);
+    state.orders.push(order);
 }
 
-/// An order that waits hides its whole sum.
-fn waiting_order(number: u32, participant: u32, terms: &Terms) -> Order
-    ensures { result ≡ waiting number participant terms.now }
-{
-    Order {
-        number,
-        owner: participant,
-        terms: *terms,
-        state: State::Waiting,
-        visible: 0,
-        hidden: terms.sum,
-        withdrawn: 0,
+/// An order that is to be placed: its number, its owner, and what it asks.
+#[derive(Clone, Copy)]
+struct Newcomer {
+    number: u32,
+    owner: u32,
+    terms: Terms,
+}
+
+impl Newcomer {
+    /// The order while it waits: it hides its whole sum.
+    fn waiting(&self) -> Order
+        ensures { result ≡ waiting self.now.number self.now.owner self.now.terms }
+    {
+        Order {
+            number: self.number,
+            owner: self.owner,
+            terms: self.terms,
+            state: State::Waiting,
+            visible: 0,
+            hidden: self.terms.sum,
+            withdrawn: 0,
+        }
     }
-}
 
-/// The remainder that is withdrawn at once.
-fn withdrawn_of(terms: &Terms, left: u32) -> u32
-    ensures { result ≡ withdrawn_of terms.now left }
-{
-    match terms.remainder {
-        Remainder::Queue => 0,
-        Remainder::Withdraw | Remainder::FillOrReject => left,
+    /// The remainder that is withdrawn at once.
+    fn withdrawn_of(&self, left: u32) -> u32
+        ensures { result ≡ withdrawn_of self.now.terms left }
+    {
+        match self.terms.remainder {
+            Remainder::Queue => 0,
+            Remainder::Withdraw | Remainder::FillOrReject => left,
+        }
     }
-}
 
-/// An order after its rounds left so much of it: that rests, or is withdrawn.
-fn entered_order(number: u32, participant: u32, terms: &Terms, left: u32) -> Order
-    ensures { result ≡ entered number participant terms.now left }
-{
-    let withdrawn = withdrawn_of(terms, left);
-    let rest = left - withdrawn;
-    let visible = visible_sum(terms.sum, terms.percent).min(rest);
-    let met = next_state(State::Active, Event::Conclusion { left });
-    Order {
-        number,
-        owner: participant,
-        terms: *terms,
-        state: match terms.remainder {
-            Remainder::Queue => met,
-            Remainder::Withdraw | Remainder::FillOrReject => next_state(met, Event::Withdrawal),
-        },
-        visible,
-        hidden: rest - visible,
-        withdrawn,
+    /// The order after its rounds left so much of it: that rests, or is withdrawn.
+    fn entered(&self, left: u32) -> Order
+        ensures { result ≡ entered self.now.number self.now.owner self.now.terms left }
+    {
+        let terms = self.terms;
+        let withdrawn = self.withdrawn_of(left);
+        let rest = left - withdrawn;
+        let visible = visible_sum(terms.sum, terms.percent).min(rest);
+        let met = next_state(State::Active, Event::Conclusion { left });
+        Order {
+            number: self.number,
+            owner: self.owner,
+            terms,
+            state: match terms.remainder {
+                Remainder::Queue => met,
+                Remainder::Withdraw | Remainder::FillOrReject => next_state(met, Event::Withdrawal),
+            },
+            visible,
+            hidden: rest - visible,
+            withdrawn,
+        }
     }
-}
 
-/// The number of the next order.
-fn next_number(state: &DayState) -> u32
-    requires { Sound state.now }
-    ensures { result ≡ next_number (day_of state.now) }
-{
-    state.count as u32 + 1
-}
-
-/// What is answered of an order that met the queue: its number, and the lots that it concluded.
-fn placed(number: u32, terms: &Terms, left: u32) -> Placed
-    requires { left ≤ terms.now.sum }
-    ensures number { result.number ≡ number }
-    ensures lots { result.lots ≡ terms.now.sum - left }
-{
-    Placed {
-        number,
-        lots: terms.sum - left,
+    /// What is answered once it met the queue: its number, and the lots that it concluded.
+    fn placed(&self, left: u32) -> Placed
+        requires { left ≤ self.now.terms.sum }
+        ensures number { result.number ≡ self.now.number }
+        ensures lots { result.lots ≡ self.now.terms.sum - left }
+    {
+        Placed {
+            number: self.number,
+            lots: self.terms.sum - left,
+        }
     }
 }
 
@@ -104,53 +106,61 @@ fn place_meeting<R: SharingRule>(
     state: &mut DayState,
     rule: &R,
     register: &mut [Row],
-    participant: u32,
-    terms: &Terms,
-    number: u32,
+    newcomer: &Newcomer,
 ) -> u32
     requires sound { Sound state.old }
-    requires few { state.old.count < 128 }
-    requires most { terms.now.sum ≤ 1000000 }
-    requires room { state.old.used + opposite terms.now.direction (day_of state.old).orders ≤ length register.old }
-    ensures left { result ≡ (meeting_in (R.SharingRule.shares rule.now) (day_of state.old) terms.now number).left }
-    ensures day { day_of state.new ≡ day_with (day_met (day_of state.old) (meeting_in (R.SharingRule.shares rule.now) (day_of state.old) terms.now number)) (entered number participant terms.now result) }
-    ensures few { state.new.count ≤ 128 }
-    ensures long { length (day_of state.new).orders ≡ state.new.count }
-    ensures register { register.new ≡ written register.old state.old.used (meeting_in (R.SharingRule.shares rule.now) (day_of state.old) terms.now number).market.rows }
-    ensures within { result ≤ terms.now.sum }
+    requires few { length (day_of state.old).orders < 128 }
+    requires most { newcomer.now.terms.sum ≤ 1000000 }
+    requires room { state.old.used + opposite newcomer.now.terms.direction (day_of state.old).orders ≤ length register.old }
+    ensures left { result ≡ (meeting_in (R.SharingRule.shares rule.now) (day_of state.old) newcomer.now.terms newcomer.now.number).left }
+    ensures day { day_of state.new ≡ day_with (day_met (day_of state.old) (meeting_in (R.SharingRule.shares rule.now) (day_of state.old) newcomer.now.terms newcomer.now.number)) (entered newcomer.now.number newcomer.now.owner newcomer.now.terms result) }
+    ensures register { register.new ≡ written register.old state.old.used (meeting_in (R.SharingRule.shares rule.now) (day_of state.old) newcomer.now.terms newcomer.now.number).market.rows }
+    ensures within { result ≤ newcomer.now.terms.sum }
 {
-    let left = enter(state, rule, register, terms, number);
-    push_order(state, entered_order(number, participant, terms, left));
+    let left = enter(state, rule, register, &newcomer.terms, newcomer.number);
+    push_order(state, newcomer.entered(left));
     left
 }
 
-/// Places an order: it is judged, its sum is reserved, it waits or meets the queue, and the remainder that is withdrawn is released.
-pub(crate) fn place_order<R: SharingRule, C: Clearing>(
-    state: &mut DayState,
-    rule: &R,
-    register: &mut [Row],
-    clearing: &mut C,
-    participant: u32,
-    terms: &Terms,
-) -> Result<Placed, Refusal>
-    requires { Sound state.old }
-    ensures outcome { placing (R.SharingRule.shares rule.now) participant terms.now (world_of state.old register.old (C.Clearing.book clearing.old)) ≡ record { answer = place_answer result; world = world_of state.new register.new (C.Clearing.book clearing.new) } }
-    ensures inside { C.Clearing.makeup clearing.new ≡ place_inside (R.SharingRule.shares rule.now) participant terms.now (world_of state.old register.old (C.Clearing.book clearing.old)) (C.Clearing.makeup clearing.old) }
-    ensures few { state.new.count ≤ 128 }
-    ensures long { length (day_of state.new).orders ≡ state.new.count }
-{
-    let number = next_number(state);
-    if let Some(refusal) = judge_place(state, register.len(), participant, terms) {
-        return Err(refusal);
+impl Desk {
+    /// The number of the next order.
+    fn next_number(&self) -> u32
+        ensures { result ≡ next_number (day_of self.now.state) }
+    {
+        // `as`, and no `try_from`, which could not fail: there are at most 128.
+        self.orders().len() as u32 + 1
     }
-    if !reserve_lots(clearing, participant, terms.sum) {
-        return Err(Refusal::Cover);
+
+    /// Places an order: it is judged, its sum is reserved, it waits or meets the queue, and a remainder that does not rest is released.
+    pub fn place<R: SharingRule, C: Clearing>(
+        &mut self,
+        rule: &R,
+        register: &mut [Row],
+        clearing: &mut C,
+        participant: u32,
+        terms: &Terms,
+    ) -> Result<Placed, Refusal>
+        ensures outcome { placing (R.SharingRule.shares rule.now) participant terms.now (world_of self.old.state register.old (C.Clearing.book clearing.old)) ≡ record { answer = place_answer result; world = world_of self.new.state register.new (C.Clearing.book clearing.new) } }
+        ensures inside { C.Clearing.makeup clearing.new ≡ place_inside (R.SharingRule.shares rule.now) participant terms.now (world_of self.old.state register.old (C.Clearing.book clearing.old)) (C.Clearing.makeup clearing.old) }
+    {
+        let newcomer = Newcomer {
+            number: self.next_number(),
+            owner: participant,
+            terms: *terms,
+        };
+        self.judge_place(register.len(), participant, terms)?;
+        if !reserve_lots(clearing, participant, terms.sum) {
+            return Err(Refusal::Cover);
+        }
+        if waits(self.state.settings.mode(), terms) {
+            push_order(&mut self.state, newcomer.waiting());
+            return Ok(Placed {
+                number: newcomer.number,
+                lots: 0,
+            });
+        }
+        let left = place_meeting(&mut self.state, rule, register, &newcomer);
+        release_lots(clearing, participant, newcomer.withdrawn_of(left));
+        Ok(newcomer.placed(left))
     }
-    if waits(state.settings.mode(), terms) {
-        push_order(state, waiting_order(number, participant, terms));
-        return Ok(Placed { number, lots: 0 });
-    }
-    let left = place_meeting(state, rule, register, participant, terms, number);
-    release_lots(clearing, participant, withdrawn_of(terms, left));
-    Ok(placed(number, terms, left))
 }

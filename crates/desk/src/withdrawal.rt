@@ -1,9 +1,10 @@
 //! Orders taken out of the day, by their owners or by its close.
-ghost use Rattle.std.specs.Prelude.{◌≡◌, ◌<◌, List};
+// Soundness is no invariant of an order, whose fields take any values. So the steps on one order require it.
+ghost use Rattle.std.specs.Prelude.{◌≡◌, List};
+ghost use Rattle.clearing.specs.Book.{released};
 ghost use Rattle.clearing.specs.Makeup.{released_in};
 ghost use Rattle.desk.specs.Inside.{withdraw_inside};
-ghost use Rattle.desk.specs.Kept.{Ends, Kept};
-ghost use Rattle.desk.specs.Worlds.{cover_without, day_without, order_of, world_of};
+ghost use Rattle.desk.specs.Worlds.{world_of};
 ghost use Rattle.model.specs.Sound.{SoundOrder};
 ghost use Rattle.model.specs.Market.{lots_of};
 ghost use Rattle.model.specs.States.{day_of};
@@ -12,18 +13,15 @@ ghost use Rattle.orders.specs.Answers.{withdraw_answer};
 ghost use Rattle.orders.specs.declared.kinds.Row.{Row};
 
 use crate::cover::release_lots;
-use crate::judging::judge_withdraw;
-use crate::places::{order_at, put_order};
+use crate::desk::Desk;
+use crate::places::put_order;
 use clearing::Clearing;
-use model::DayState;
 use orders::{Event, Order, Refusal, Withdrawn, next_state};
 
 /// The order with all its lots withdrawn.
 fn taken_out(order: &Order, event: Event) -> Order
-    requires sound { SoundOrder order.now }
-    requires ends { Ends event }
-    ensures value { result ≡ taken_out event order.now }
-    ensures sound { SoundOrder result }
+    requires { SoundOrder order.now }
+    ensures { result ≡ taken_out event order.now }
 {
     Order {
         state: next_state(order.state, event),
@@ -34,46 +32,35 @@ fn taken_out(order: &Order, event: Event) -> Order
     }
 }
 
-/// Takes the order at a place out, releases its lots, and says how many they were.
-pub(crate) fn take_out<C: Clearing>(
-    state: &mut DayState,
-    clearing: &mut C,
-    place: usize,
-    event: Event,
-) -> u32
-    requires kept { Kept state.old }
-    requires stands { place < state.old.count }
-    requires ends { Ends event }
-    ensures answer { result ≡ lots_of (order_of state.old place) }
-    ensures day { day_of state.new ≡ day_without event state.old place }
-    ensures count { state.new.count ≡ state.old.count }
-    ensures kept { Kept state.new }
-    ensures cover { C.Clearing.book clearing.new ≡ cover_without state.old place (C.Clearing.book clearing.old) }
-    ensures inside { C.Clearing.makeup clearing.new ≡ released_in (C.Clearing.makeup clearing.old) (order_of state.old place).owner (lots_of (order_of state.old place)) }
+/// Takes an order out, releases its lots, and says how many they were.
+pub(crate) fn take_out<C: Clearing>(order: &mut Order, clearing: &mut C, event: Event) -> u32
+    requires { SoundOrder order.old }
+    ensures lots { result ≡ lots_of order.old }
+    ensures order { order.new ≡ taken_out event order.old }
+    ensures cover { C.Clearing.book clearing.new ≡ released (C.Clearing.book clearing.old) order.old.owner (lots_of order.old) }
+    ensures inside { C.Clearing.makeup clearing.new ≡ released_in (C.Clearing.makeup clearing.old) order.old.owner (lots_of order.old) }
 {
-    let order = order_at(state, place);
     let lots = order.visible + order.hidden;
-    put_order(state, place, taken_out(&order, event));
+    *order = taken_out(order, event);
     release_lots(clearing, order.owner, lots);
     lots
 }
 
-/// Takes an order out at its owner's word, and releases its lots.
-pub(crate) fn withdraw_order<C: Clearing>(
-    state: &mut DayState,
-    clearing: &mut C,
-    number: u32,
-    participant: u32,
-) -> Result<Withdrawn, Refusal>
-    requires { Kept state.old }
-    ensures outcome { (register : List Row) → withdrawing number participant (world_of state.old register (C.Clearing.book clearing.old)) ≡ record { answer = withdraw_answer result; world = world_of state.new register (C.Clearing.book clearing.new) } }
-    ensures inside { C.Clearing.makeup clearing.new ≡ withdraw_inside number participant (day_of state.old) (C.Clearing.makeup clearing.old) }
-    ensures kept { Kept state.new }
-    ensures count { state.new.count ≡ state.old.count }
-{
-    if let Some(refusal) = judge_withdraw(state, number, participant) {
-        return Err(refusal);
+impl Desk {
+    /// Takes an order out at its owner's word, and releases its lots.
+    pub fn withdraw<C: Clearing>(
+        &mut self,
+        clearing: &mut C,
+        number: u32,
+        participant: u32,
+    ) -> Result<Withdrawn, Refusal>
+        ensures outcome { (register : List Row) → withdrawing number participant (world_of self.old.state register (C.Clearing.book clearing.old)) ≡ record { answer = withdraw_answer result; world = world_of self.new.state register (C.Clearing.book clearing.new) } }
+        ensures inside { C.Clearing.makeup clearing.new ≡ withdraw_inside number participant (day_of self.old.state) (C.Clearing.makeup clearing.old) }
+    {
+        let place = self.judge_withdraw(number, participant)?;
+        let mut order = self.order_at(place);
+        let lots = take_out(&mut order, clearing, Event::Withdrawal);
+        put_order(&mut self.state, place, order);
+        Ok(Withdrawn { lots })
     }
-    let lots = take_out(state, clearing, number as usize - 1, Event::Withdrawal);
-    Ok(Withdrawn { lots })
 }

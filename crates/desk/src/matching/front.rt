@@ -1,37 +1,39 @@
 //! The orders at the best rate.
-ghost use Rattle.std.specs.Prelude.{◌≡◌, ◌≤◌, length, take};
+ghost use Rattle.std.specs.Prelude.{◌≡◌, ◌<◌, ◌≤◌, length};
+ghost use Rattle.std.specs.List.{All};
 ghost use Rattle.model.specs.Market.{visible_at};
-ghost use Rattle.desk.specs.Matching.{PlacesOf, places_at};
+ghost use Rattle.desk.specs.Matching.{places_at};
 
-use crate::matching::offers::at_rate;
-use orders::{Order, Settings, Terms};
+use crate::matching::Entering;
+use arrayvec::ArrayVec;
+use orders::{Order, Rate};
 
-/// Writes the places of the orders that the entering one may meet at this rate, with their visible sums, in queue order.
-/// Returns how many there are.
-pub(super) fn collect(
-    settings: &Settings,
-    entering: &Terms,
-    rate: u32,
-    orders: &[Order],
-    queue: &[u8],
-    places: &mut [u8],
-    sums: &mut [u32],
-) -> usize
-    requires places { PlacesOf (length orders.now) queue.now }
-    requires room { length (places_at settings.now entering.now rate orders.now queue.now) ≤ length places.old }
-    requires long { length sums.old ≡ length places.old }
-    ensures count { result ≡ length (places_at settings.now entering.now rate orders.now queue.now) }
-    ensures listed { take result places.new ≡ places_at settings.now entering.now rate orders.now queue.now }
-    ensures visible { take result sums.new ≡ visible_at orders.now (places_at settings.now entering.now rate orders.now queue.now) }
-{
-    let mut count = 0;
-    for &place in queue {
-        let order = &orders[place as usize];
-        if at_rate(settings, entering, rate, order) {
-            places[count] = place;
-            sums[count] = order.visible;
-            count += 1;
+impl Entering {
+    /// The places of the orders that it may meet at this rate, in queue order.
+    pub(super) fn places_at(&self, rate: Rate, orders: &[Order], queue: &[u8]) -> ArrayVec<u8, 64>
+        requires places { All (λ place. place < length orders.now) queue.now }
+        requires room { length (places_at self.now.settings self.now.terms rate.hundredths orders.now queue.now) ≤ 64 }
+        ensures { result.items ≡ places_at self.now.settings self.now.terms rate.hundredths orders.now queue.now }
+    {
+        let mut places = ArrayVec::new();
+        for &place in queue {
+            if self.meets_at(rate, &orders[usize::from(place)]) {
+                places.push(place);
+            }
         }
+        places
     }
-    count
+}
+
+/// The visible sums of the orders at these places.
+pub(super) fn visible_at(orders: &[Order], places: &[u8]) -> ArrayVec<u32, 64>
+    requires places { All (λ place. place < length orders.now) places.now }
+    requires room { length places.now ≤ 64 }
+    ensures { result.items ≡ visible_at orders.now places.now }
+{
+    let mut sums = ArrayVec::new();
+    for &place in places {
+        sums.push(orders[usize::from(place)].visible);
+    }
+    sums
 }

@@ -1,14 +1,17 @@
 //! The orders that an entering one may meet, and their best rate.
-ghost use Rattle.std.specs.Prelude.{◌≡◌, [], length};
+ghost use Rattle.std.specs.Prelude.{◌≡◌, ◌<◌, [], length, option_map};
+ghost use Rattle.std.specs.List.{All};
 ghost use Rattle.model.specs.Market.{better, offers, rates_at};
-ghost use Rattle.desk.specs.Matching.{PlacesOf, at_rate, best_of, market_of, with_order};
+ghost use Rattle.desk.specs.Matching.{at_rate, best_of, market_of};
 
+use crate::matching::Entering;
 use crate::standing::meets;
-use orders::{Direction, Order, Settings, Terms, row_rate};
+use orders::{Direction, Order, Rate, row_rate};
 
 /// The better of two rates for an order that enters: the higher for a deposit, the lower for a repo order.
-fn better(direction: Direction, a: u32, b: u32) -> u32
-    ensures { result ≡ better direction a b }
+// A function, and no `max` and `min` at the chain's end: there the step stands alone, and a wrong one is refused for itself.
+fn better(direction: Direction, a: Rate, b: Rate) -> Rate
+    ensures { result.hundredths ≡ better direction a.hundredths b.hundredths }
 {
     match direction {
         Direction::Deposit => a.max(b),
@@ -16,45 +19,24 @@ fn better(direction: Direction, a: u32, b: u32) -> u32
     }
 }
 
-/// The best rate so far, with one more order.
-fn with_order(
-    settings: &Settings,
-    entering: &Terms,
-    best: Option<u32>,
-    resting: &Order,
-) -> Option<u32>
-    ensures { result ≡ with_order settings.now entering.now best resting.now }
-{
-    if !meets(entering, resting) {
-        return best;
+impl Entering {
+    /// Whether it may meet a resting order, at this rate.
+    pub(super) fn meets_at(&self, rate: Rate, resting: &Order) -> bool
+        ensures { result ≡ at_rate self.now.settings self.now.terms rate.hundredths resting.now }
+    {
+        meets(&self.terms, resting) && row_rate(&self.settings, &resting.terms) == rate
     }
-    let rate = row_rate(settings, &resting.terms).hundredths;
-    match best {
-        Some(so_far) => Some(better(entering.direction, so_far, rate)),
-        None => Some(rate),
-    }
-}
 
-/// Whether the entering order may meet a resting one, at this rate.
-pub(super) fn at_rate(settings: &Settings, entering: &Terms, rate: u32, resting: &Order) -> bool
-    ensures { result ≡ at_rate settings.now entering.now rate resting.now }
-{
-    meets(entering, resting) && row_rate(settings, &resting.terms).hundredths == rate
-}
-
-/// The best rate of the orders that the entering one may meet.
-pub(super) fn best_rate(
-    settings: &Settings,
-    entering: &Terms,
-    orders: &[Order],
-    queue: &[u8],
-) -> Option<u32>
-    requires { PlacesOf (length orders.now) queue.now }
-    ensures { result ≡ best_of entering.now.direction (rates_at settings.now orders.now (offers entering.now (market_of orders.now queue.now []))) }
-{
-    let mut best = None;
-    for &place in queue {
-        best = with_order(settings, entering, best, &orders[place as usize]);
+    /// The best rate of the orders that it may meet.
+    pub(super) fn best_rate(&self, orders: &[Order], queue: &[u8]) -> Option<Rate>
+        requires { All (λ place. place < length orders.now) queue.now }
+        ensures { option_map (λ rate. rate.hundredths) result ≡ best_of self.now.terms.direction (rates_at self.now.settings orders.now (offers self.now.terms (market_of orders.now queue.now []))) }
+    {
+        queue
+            .iter()
+            .map(|&place| &orders[usize::from(place)])
+            .filter(|resting| meets(&self.terms, resting))
+            .map(|resting| row_rate(&self.settings, &resting.terms))
+            .reduce(|a, b| better(self.terms.direction, a, b))
     }
-    best
 }

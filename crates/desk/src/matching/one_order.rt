@@ -1,4 +1,5 @@
 //! What a share of a round does to an order.
+// The share stays a parameter, with what is asked of it: an order with its share would be made and taken apart in each step.
 ghost use Rattle.std.specs.Prelude.{◌≡◌, ◌+◌, ◌^◌, ◌<◌, ◌≤◌};
 ghost use Rattle.model.specs.Market.{lots_of};
 ghost use Rattle.model.specs.Rounds.{after_share, concluded, refills, shown_again, spent};

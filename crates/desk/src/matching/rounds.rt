@@ -1,59 +1,35 @@
 //! All rounds of an order that enters.
-ghost use Rattle.std.specs.Prelude.{◌≡◌, ◌≤◌, [], length};
+ghost use Rattle.std.specs.Prelude.{◌≡◌, ◌≤◌, []};
 ghost use Rattle.model.specs.Rounds.{meeting};
 ghost use Rattle.desk.specs.Matching.{EntryReady, Stands, market_of};
 
-use crate::matching::hold::hold_round;
-use crate::matching::offers::best_rate;
-use crate::matching::{Entering, Met};
-use orders::{Order, Row, Settings, Terms};
+use crate::matching::{Entering, Rows};
+use orders::Order;
 use sharing::SharingRule;
 
-/// Holds rounds until nothing is left of the entering order, or nothing that it may meet.
-fn hold_rounds<R: SharingRule>(
-    rule: &R,
-    entering: &Entering,
-    orders: &mut [Order],
-    queue: &mut [u8],
-    rows: &mut [Row],
-) -> Met
-    requires { EntryReady entering.now.terms (market_of orders.old queue.old []) rows.old }
-    ensures left { result.left ≡ (meeting (R.SharingRule.shares rule.now) entering.now.settings entering.now.terms entering.now.number (market_of orders.old queue.old [])).left }
-    ensures market { Stands (meeting (R.SharingRule.shares rule.now) entering.now.settings entering.now.terms entering.now.number (market_of orders.old queue.old [])).market orders.new queue.new rows.old rows.new result.made }
-    ensures within { (result.left ≤ entering.now.terms.sum) × (result.made ≤ length rows.old) }
-{
-    let mut left = entering.terms.sum;
-    let mut made = 0;
-    while left > 0 {
-        let Some(rate) = best_rate(&entering.settings, &entering.terms, orders, queue) else {
-            return Met { left, made };
-        };
-        let round = hold_round(rule, entering, left, rate, orders, queue, rows, made);
-        left -= round.lots;
-        made = round.made;
+impl Entering {
+    /// Lets it meet the queue: holds rounds until nothing is left of it, or nothing that it may meet. Returns the lots left of it.
+    pub(crate) fn meet<R: SharingRule>(
+        &self,
+        rule: &R,
+        orders: &mut [Order],
+        queue: &mut [u8],
+        rows: &mut Rows,
+    ) -> u32
+        requires ready { EntryReady self.now.terms (market_of orders.old queue.old []) rows.old.all.now }
+        requires none { rows.old.made ≡ 0 }
+        ensures same { rows.new.all.ghost_name ≡ rows.old.all.ghost_name }
+        ensures left { result ≡ (meeting (R.SharingRule.shares rule.now) self.now.settings self.now.terms self.now.number (market_of orders.old queue.old [])).left }
+        ensures market { Stands (meeting (R.SharingRule.shares rule.now) self.now.settings self.now.terms self.now.number (market_of orders.old queue.old [])).market orders.new queue.new rows.old.all.now rows.new.all.now rows.new.made }
+        ensures within { result ≤ self.now.terms.sum }
+    {
+        let mut left = self.terms.sum;
+        while left > 0 {
+            let Some(rate) = self.best_rate(orders, queue) else {
+                break;
+            };
+            left -= self.hold_round(rule, left, rate, orders, queue, rows);
+        }
+        left
     }
-    Met { left, made }
-}
-
-/// Lets the order with these terms and this number meet the queue. The rows of the entry go to the front of `rows`.
-pub(crate) fn meet<R: SharingRule>(
-    rule: &R,
-    settings: &Settings,
-    terms: &Terms,
-    number: u32,
-    orders: &mut [Order],
-    queue: &mut [u8],
-    rows: &mut [Row],
-) -> Met
-    requires { EntryReady terms.now (market_of orders.old queue.old []) rows.old }
-    ensures left { result.left ≡ (meeting (R.SharingRule.shares rule.now) settings.now terms.now number (market_of orders.old queue.old [])).left }
-    ensures market { Stands (meeting (R.SharingRule.shares rule.now) settings.now terms.now number (market_of orders.old queue.old [])).market orders.new queue.new rows.old rows.new result.made }
-    ensures within { (result.left ≤ terms.now.sum) × (result.made ≤ length rows.old) }
-{
-    let entering = Entering {
-        settings: *settings,
-        terms: *terms,
-        number,
-    };
-    hold_rounds(rule, &entering, orders, queue, rows)
 }

@@ -1,126 +1,99 @@
 //! The rows that an entry makes.
-ghost use Rattle.std.specs.Prelude.{◌≡◌, ◌+◌, ◌^◌, ◌<◌, ◌≤◌, not, length, take, sum_by, sum};
-ghost use Rattle.std.specs.List.{prefix_len};
+ghost use Rattle.std.specs.Prelude.{◌≡◌, ◌+◌, ◌^◌, ◌<◌, ◌≤◌, length, take, position, sum_by, sum};
+ghost use Rattle.std.specs.List.{All};
 ghost use Rattle.model.specs.Rows.{add_row, add_rows, row_with, same_pair};
-ghost use Rattle.desk.specs.Matching.{PlacesOf, RowsMade, with_share};
+ghost use Rattle.desk.specs.Matching.{RowsMade, with_share};
 
-use orders::{Direction, Order, Row, Settings, row_rate};
+use crate::matching::Entering;
+use orders::{Direction, Order, Row, row_rate};
 
 /// Whether two rows are of one pair.
 fn same_pair(a: &Row, b: &Row) -> bool
     ensures { result ≡ same_pair a.now b.now }
 {
-    a.deposit == b.deposit && a.repo == b.repo
+    // A pair is two of the four fields, so the derived `==` of rows does not fit.
+    (a.deposit, a.repo) == (b.deposit, b.repo)
 }
 
-/// The row of an entering order with the order at a place.
-fn row_with(
-    settings: &Settings,
-    direction: Direction,
-    number: u32,
-    orders: &[Order],
-    place: u8,
-    lots: u32,
-) -> Row
-    requires { place < length orders.now }
-    ensures { result ≡ row_with settings.now direction number orders.now place lots }
+/// Where the row of the same pair is, if there is one.
+fn find_pair(row: &Row, rows: &[Row]) -> Option<usize>
+    ensures { result ≡ position (same_pair row.now) rows.now }
 {
-    let rate = row_rate(settings, &orders[place as usize].terms);
-    let other = place as u32 + 1;
-    match direction {
-        Direction::Deposit => Row {
-            deposit: number,
-            repo: other,
-            rate,
-            lots,
-        },
-        Direction::Repo => Row {
-            deposit: other,
-            repo: number,
-            rate,
-            lots,
-        },
-    }
+    rows.iter().position(|other| same_pair(row, other))
 }
 
-/// Where the row of the same pair is, or the number of the rows.
-fn find_pair(row: &Row, rows: &[Row]) -> usize
-    ensures { result ≡ prefix_len (λ other. not (same_pair row.now other)) rows.now }
-{
-    for (i, other) in rows.iter().enumerate() {
-        if same_pair(row, other) {
-            return i;
+/// The rows of an entry: the first `made` of these places.
+// They lie in the caller's register, which no call keeps, so each step says that it is still the same one.
+#[derive(Drop)]
+pub(crate) struct Rows<'a> {
+    pub(crate) all: &'a mut [Row],
+    pub(crate) made: usize,
+    ghost inside: { made ≤ length all.now },
+}
+
+impl Rows<'_> {
+    /// Adds a conclusion: the row of its pair grows, or it is new.
+    fn add(&mut self, row: Row)
+        requires room { length (add_row row (take self.old.made self.old.all.now)) ≤ length self.old.all.now }
+        requires fits { sum_by (λ r. r.lots) (take self.old.made self.old.all.now) + row.lots < 2 ^ 32 }
+        ensures same { self.new.all.ghost_name ≡ self.old.all.ghost_name }
+        ensures rows { RowsMade (add_row row (take self.old.made self.old.all.now)) self.old.all.now self.new.all.now self.new.made }
+    {
+        let all = &mut *self.all;
+        match find_pair(&row, &all[..self.made]) {
+            Some(at) => all[at].lots += row.lots,
+            None => {
+                all[self.made] = row;
+                self.made += 1;
+            }
         }
     }
-    rows.len()
 }
 
-/// Adds a conclusion to the first `made` rows: the row of its pair grows, or it is new. Returns how many rows there are then.
-fn add_row(row: Row, rows: &mut [Row], made: usize) -> usize
-    requires inside { made ≤ length rows.old }
-    requires room { length (add_row row (take made rows.old)) ≤ length rows.old }
-    requires fits { sum_by (λ r. r.lots) (take made rows.old) + row.lots < 2 ^ 32 }
-    ensures { RowsMade (add_row row (take made rows.old)) rows.old rows.new result }
-{
-    let at = find_pair(&row, &rows[0..made]);
-    if at < made {
-        rows[at].lots += row.lots;
-        return made;
+impl Entering {
+    /// The row of this order with the order at a place.
+    fn row_with(&self, orders: &[Order], place: u8, lots: u32) -> Row
+        requires { place < length orders.now }
+        ensures { result ≡ row_with self.now.settings self.now.terms.direction self.now.number orders.now place lots }
+    {
+        let rate = row_rate(&self.settings, &orders[usize::from(place)].terms);
+        let other = u32::from(place) + 1;
+        let (deposit, repo) = match self.terms.direction {
+            Direction::Deposit => (self.number, other),
+            Direction::Repo => (other, self.number),
+        };
+        Row {
+            deposit,
+            repo,
+            rate,
+            lots,
+        }
     }
-    rows[made] = row;
-    made + 1
-}
 
-/// Adds the share of the order at a place to the first `made` rows; a share of 0 makes none.
-fn add_share(
-    settings: &Settings,
-    direction: Direction,
-    number: u32,
-    orders: &[Order],
-    place: u8,
-    lots: u32,
-    rows: &mut [Row],
-    made: usize,
-) -> usize
-    requires stands { place < length orders.now }
-    requires inside { made ≤ length rows.old }
-    requires room { length (with_share settings.now direction number orders.now place lots (take made rows.old)) ≤ length rows.old }
-    requires fits { sum_by (λ r. r.lots) (take made rows.old) + lots < 2 ^ 32 }
-    ensures { RowsMade (with_share settings.now direction number orders.now place lots (take made rows.old)) rows.old rows.new result }
-{
-    if lots == 0 {
-        return made;
+    /// Adds the share of the order at a place; a share of 0 makes no row.
+    fn add_share(&self, orders: &[Order], place: u8, lots: u32, rows: &mut Rows)
+        requires stands { place < length orders.now }
+        requires room { length (with_share self.now.settings self.now.terms.direction self.now.number orders.now place lots (take rows.old.made rows.old.all.now)) ≤ length rows.old.all.now }
+        requires fits { sum_by (λ r. r.lots) (take rows.old.made rows.old.all.now) + lots < 2 ^ 32 }
+        ensures same { rows.new.all.ghost_name ≡ rows.old.all.ghost_name }
+        ensures rows { RowsMade (with_share self.now.settings self.now.terms.direction self.now.number orders.now place lots (take rows.old.made rows.old.all.now)) rows.old.all.now rows.new.all.now rows.new.made }
+    {
+        if lots > 0 {
+            rows.add(self.row_with(orders, place, lots));
+        }
     }
-    add_row(
-        row_with(settings, direction, number, orders, place, lots),
-        rows,
-        made,
-    )
-}
 
-/// Adds the shares of a round to the first `made` rows. Returns how many rows there are then.
-pub(super) fn add_rows(
-    settings: &Settings,
-    direction: Direction,
-    number: u32,
-    orders: &[Order],
-    places: &[u8],
-    shares: &[u32],
-    rows: &mut [Row],
-    made: usize,
-) -> usize
-    requires places { PlacesOf (length orders.now) places.now }
-    requires long { length shares.now ≡ length places.now }
-    requires inside { made ≤ length rows.old }
-    requires room { length (add_rows settings.now direction number orders.now places.now shares.now (take made rows.old)) ≤ length rows.old }
-    requires fits { sum_by (λ r. r.lots) (take made rows.old) + sum shares.now < 2 ^ 32 }
-    ensures { RowsMade (add_rows settings.now direction number orders.now places.now shares.now (take made rows.old)) rows.old rows.new result }
-{
-    let mut count = made;
-    for (i, &place) in places.iter().enumerate() {
-        count = add_share(
-            settings, direction, number, orders, place, shares[i], rows, count,
-        );
+    /// Adds the shares of a round.
+    pub(super) fn add_rows(&self, orders: &[Order], places: &[u8], shares: &[u32], rows: &mut Rows)
+        requires places { All (λ place. place < length orders.now) places.now }
+        requires long { length shares.now ≡ length places.now }
+        requires room { length (add_rows self.now.settings self.now.terms.direction self.now.number orders.now places.now shares.now (take rows.old.made rows.old.all.now)) ≤ length rows.old.all.now }
+        requires fits { sum_by (λ r. r.lots) (take rows.old.made rows.old.all.now) + sum shares.now < 2 ^ 32 }
+        ensures same { rows.new.all.ghost_name ≡ rows.old.all.ghost_name }
+        ensures rows { RowsMade (add_rows self.now.settings self.now.terms.direction self.now.number orders.now places.now shares.now (take rows.old.made rows.old.all.now)) rows.old.all.now rows.new.all.now rows.new.made }
+    {
+        for (&place, &share) in places.iter().zip(shares) {
+            self.add_share(orders, place, share, rows);
+        }
     }
-    count
 }

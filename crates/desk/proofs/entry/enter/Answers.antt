@@ -1,14 +1,19 @@
-use Rattle.std.proofs.Common.{refl}
+use Rattle.std.proofs.Common.{arith}
+use Rattle.std.proofs.lemmas.List.{length-take, length-drop}
+use Rattle.orders.specs.declared.kinds.Direction.TheVariants.{Deposit, Repo}
+use Rattle.model.specs.Place.{market_of}
 use Rattle.model.specs.States.{day_of}
-use Rattle.desk.specs.Entry.{meeting_in}
-use Rattle.desk.proofs.Entries.{day_met_lem, rows_written}
+use Rattle.desk.proofs.Desks.{queue_long}
+use Rattle.desk.proofs.Placements.{all_registered}
 use Rattle.desk.proofs.entry.enter.Goals as goal
 
-pub returns : goal.returns
-returns g c = record {
-  left = c.meet_first-met.ensures.left;
-  day = day_met_lem (day_of c.args.state.now) (meeting_in (g.R.SharingRule.shares c.args.rule.now) (day_of c.args.state.now) c.args.terms.now c.args.number) _ _ _ _ c.meet_first-met.result.made c.meet_first-met.ensures.market;
-  count = refl {a = c.args.state.now.count};
-  register = rows_written c.args.register.now _ c.meet_first-met.new.rows c.args.state.now.used c.meet_first-met.result.made c.meet_first-met.ensures.market.rows;
-  within = c.meet_first-met.ensures.within.0;
-}
+pub meet_queue-met-requires : goal.meet_queue-met-requires
+meet_queue-met-requires g c =
+    let market = c.requires.sound.market in
+    record {
+      sound = market;
+      few = omega (arith, all_registered c.args.state.now.orders.items, market.few Deposit, market.few Repo);
+      long = queue_long (market_of (day_of c.args.state.now)) market;
+      most = c.requires.most;
+      room = simp (length-take, length-drop) (omega (arith, c.requires.room));
+    }

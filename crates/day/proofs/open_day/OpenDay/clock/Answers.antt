@@ -18,17 +18,17 @@ invariant_of-self g c = record {
       (reached_clocking (g.R.SharingRule.shares c.args.rule.now) (g.met.R.SharingRule.divides c.args.rule.now) c.args.time (world_of c.args.self.now.desk.state c.args.register.now (g.C.Clearing.book c.args.clearing.now)) c.args.self.now.reached);
 }
 
-pub returns : goal.returns
-returns g c =
+pub returns-clause-law : goal.returns-clause-law
+returns-clause-law g c =
     let rule = g.R.SharingRule.shares c.args.rule.now in
     let w = world_of c.args.self.now.desk.state c.args.register.now (g.C.Clearing.book c.args.clearing.now) in
-    record {
-      outcome = c.clock.ensures.outcome;
-      inside = c.clock.ensures.inside;
-      law = subst (Extends (clock rule (length c.args.register.now) c.args.time) w) (ap (λ (o : Outcome). o.world) c.clock.ensures.outcome)
-          (extends_clock rule (g.met.R.SharingRule.divides c.args.rule.now) c.args.time w);
-      elsewhere = λ differs other fits.
-          extends_over (clock rule (length c.args.register.now) c.args.time) w _ other
-          (sym c.clock.ensures.outcome ∙ clocking_length rule c.args.time w differs)
-          (extends_clock_other rule (g.met.R.SharingRule.divides c.args.rule.now) (length c.args.register.now) c.args.time (over other w) fits differs);
-    }
+    subst (Extends (clock rule (length c.args.register.now) c.args.time) w) (ap (λ (o : Outcome). o.world) c.clock.ensures.outcome)
+    (extends_clock rule (g.met.R.SharingRule.divides c.args.rule.now) c.args.time w)
+
+pub returns-clause-elsewhere : goal.returns-clause-elsewhere
+returns-clause-elsewhere g c differs other fits =
+    let rule = g.R.SharingRule.shares c.args.rule.now in
+    let w = world_of c.args.self.now.desk.state c.args.register.now (g.C.Clearing.book c.args.clearing.now) in
+    extends_over (clock rule (length c.args.register.now) c.args.time) w _ other
+    (sym c.clock.ensures.outcome ∙ clocking_length rule c.args.time w differs)
+    (extends_clock_other rule (g.met.R.SharingRule.divides c.args.rule.now) (length c.args.register.now) c.args.time (over other w) fits differs)

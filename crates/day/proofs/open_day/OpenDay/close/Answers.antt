@@ -15,11 +15,7 @@ invariant_of-result g c = record {
       (reached_closing (world_of c.args.self.desk.state [] (g.C.Clearing.book c.args.clearing.now)) c.args.self.reached);
 }
 
-pub returns : goal.returns
-returns g c = record {
-  world = c.close.ensures.world;
-  inside = c.close.ensures.inside;
-  law = λ register.
-      subst (Closes (world_of c.args.self.desk.state register (g.C.Clearing.book c.args.clearing.now))) (c.close.ensures.world register)
-      (closes (world_of c.args.self.desk.state register (g.C.Clearing.book c.args.clearing.now)));
-}
+pub returns-clause-law : goal.returns-clause-law
+returns-clause-law g c register =
+    subst (Closes (world_of c.args.self.desk.state register (g.C.Clearing.book c.args.clearing.now))) (c.close.ensures.world register)
+    (closes (world_of c.args.self.desk.state register (g.C.Clearing.book c.args.clearing.now)))

@@ -18,17 +18,17 @@ invariant_of-self g c = record {
       (reached_placing (g.R.SharingRule.shares c.args.rule.now) (g.met.R.SharingRule.divides c.args.rule.now) c.args.participant c.args.terms.now (world_of c.args.self.now.desk.state c.args.register.now (g.C.Clearing.book c.args.clearing.now)) c.args.self.now.reached);
 }
 
-pub returns : goal.returns
-returns g c =
+pub returns-clause-law : goal.returns-clause-law
+returns-clause-law g c =
     let rule = g.R.SharingRule.shares c.args.rule.now in
     let w = world_of c.args.self.now.desk.state c.args.register.now (g.C.Clearing.book c.args.clearing.now) in
-    record {
-      outcome = c.place.ensures.outcome;
-      inside = c.place.ensures.inside;
-      law = subst (Extends (place rule (length c.args.register.now) c.args.participant c.args.terms.now) w) (ap (λ (o : Outcome). o.world) c.place.ensures.outcome)
-          (extends_place rule (g.met.R.SharingRule.divides c.args.rule.now) c.args.participant c.args.terms.now w);
-      elsewhere = λ differs other fits.
-          extends_over (place rule (length c.args.register.now) c.args.participant c.args.terms.now) w _ other
-          (sym c.place.ensures.outcome ∙ placing_length rule c.args.participant c.args.terms.now w differs)
-          (extends_place_other rule (g.met.R.SharingRule.divides c.args.rule.now) (length c.args.register.now) c.args.participant c.args.terms.now (over other w) fits differs);
-    }
+    subst (Extends (place rule (length c.args.register.now) c.args.participant c.args.terms.now) w) (ap (λ (o : Outcome). o.world) c.place.ensures.outcome)
+    (extends_place rule (g.met.R.SharingRule.divides c.args.rule.now) c.args.participant c.args.terms.now w)
+
+pub returns-clause-elsewhere : goal.returns-clause-elsewhere
+returns-clause-elsewhere g c differs other fits =
+    let rule = g.R.SharingRule.shares c.args.rule.now in
+    let w = world_of c.args.self.now.desk.state c.args.register.now (g.C.Clearing.book c.args.clearing.now) in
+    extends_over (place rule (length c.args.register.now) c.args.participant c.args.terms.now) w _ other
+    (sym c.place.ensures.outcome ∙ placing_length rule c.args.participant c.args.terms.now w differs)
+    (extends_place_other rule (g.met.R.SharingRule.divides c.args.rule.now) (length c.args.register.now) c.args.participant c.args.terms.now (over other w) fits differs)

@@ -16,12 +16,8 @@ invariant_of-self g c = record {
       (reached_withdrawing c.args.number c.args.participant (world_of c.args.self.now.desk.state [] (g.C.Clearing.book c.args.clearing.now)) c.args.self.now.reached);
 }
 
-pub returns : goal.returns
-returns g c = record {
-  outcome = c.withdraw.ensures.outcome;
-  inside = c.withdraw.ensures.inside;
-  law = λ register.
-      subst (Extends (withdraw c.args.number c.args.participant) (world_of c.args.self.now.desk.state register (g.C.Clearing.book c.args.clearing.now)))
-      (ap (λ (o : Outcome). o.world) (c.withdraw.ensures.outcome register))
-      (extends_withdraw c.args.number c.args.participant (world_of c.args.self.now.desk.state register (g.C.Clearing.book c.args.clearing.now)));
-}
+pub returns-clause-law : goal.returns-clause-law
+returns-clause-law g c register =
+    subst (Extends (withdraw c.args.number c.args.participant) (world_of c.args.self.now.desk.state register (g.C.Clearing.book c.args.clearing.now)))
+    (ap (λ (o : Outcome). o.world) (c.withdraw.ensures.outcome register))
+    (extends_withdraw c.args.number c.args.participant (world_of c.args.self.now.desk.state register (g.C.Clearing.book c.args.clearing.now)))
