@@ -1,7 +1,7 @@
 -- Bytes of a script, one more at a time.
-use Rattle.std.proofs.Common.{◌≡◌, ℕ, ◌+◌, ◌<◌, ◌≤◌, List, [], ◌∷◌, ◌++◌, length, get_or, take, sym, refl, ap, ◌∙◌, subst, append_assoc, append-nil}
-use Rattle.std.proofs.lemmas.List.{take_more, take_all}
-use Rattle.reader.specs.Transcript.{Standing, Takes, Feeds, Fed, Stopped, PiecesJoin}
+use Rattle.std.proofs.Common.{◌≡◌, ℕ, ◌+◌, ◌<◌, List, [], ◌∷◌, ◌++◌, length, get_or, take, sym, refl, ap, ◌∙◌, subst, append_assoc, append-nil}
+use Rattle.std.proofs.lemmas.List.{take_more}
+use Rattle.reader.specs.Transcript.{Standing, Takes, Feeds, Fed, PiecesJoin}
 
 -- the text so far gets what is written for a byte
 abbrev pub Taken : Standing → ℕ → List ℕ → List ℕ → Standing → Type 0
@@ -35,18 +35,3 @@ fed_more start bytes before i so_far next after end less (output, fed, front) (m
   subst (λ (bs : List ℕ). Feeds start bs (output ++ more) end) (sym (take_more bytes i 0 less)) (feeds_then start (take i bytes) output next (get_or bytes i 0 ∷ []) more end fed (feeds_one next (get_or bytes i 0) more end takes)),
   grown ∙ (ap (λ o. o ++ more) front ∙ append_assoc before output more),
 )
-
--- every byte
-pub fed_all :
-    (start : Standing) (bytes before : List ℕ) (i : ℕ) (after : List ℕ) (end : Standing) →
-    length bytes ≤ i → Fed start (take i bytes) before after end → Fed start bytes before after end
-fed_all start bytes before i after end all fed =
-    subst (λ (bs : List ℕ). Fed start bs before after end) (take_all i bytes all) fed
-
--- memory ran out at the byte at i
-pub stopped_at :
-    (start : Standing) (bytes before : List ℕ) (i : ℕ) (so_far : List ℕ) (reached : Standing) (after : List ℕ) →
-    i < length bytes → Fed start (take i bytes) before so_far reached →
-    (get_or bytes i 0 ≡ 10) × (after ≡ so_far) → Stopped start bytes before after
-stopped_at start bytes before i so_far reached after less (output, fed, front) (newline, same) =
-    (i, reached, less, newline, (output, fed, same ∙ front))

@@ -18,7 +18,7 @@ fn push_line(text: &mut Vec<u8>, line: &[u8]) -> Result<(), AllocError>
     ensures { OnOk result (text.new.items ≡ text.old.items ++ output_line line.now) }
 {
     text.extend_from_slice(line)?;
-    text.extend_from_slice(b"\n")?;
+    text.push(b'\n')?;
     Ok(())
 }
 
@@ -26,11 +26,7 @@ fn push_line(text: &mut Vec<u8>, line: &[u8]) -> Result<(), AllocError>
 fn front(line: &[u8]) -> &[u8]
     ensures { result.now ≡ take 4096 line.now }
 {
-    if line.len() > ECHOED {
-        &line[0..ECHOED]
-    } else {
-        line
-    }
+    &line[..ECHOED.min(line.len())]
 }
 
 /// What is written of a line itself.
@@ -38,10 +34,9 @@ fn written_back(heap: Global, echo: bool, line: &[u8]) -> Result<Vec<u8>, AllocE
     ensures { IfOk result (λ text. text.items ≡ written_back echo line.now) }
 {
     let mut text = Vec::new(heap);
-    if !echo {
-        return Ok(text);
+    if echo {
+        push_line(&mut text, front(line))?;
     }
-    push_line(&mut text, front(line))?;
     Ok(text)
 }
 
@@ -55,9 +50,10 @@ fn push_answer(text: &mut Vec<u8>, heap: Global, answer: &Option<Answer>) -> Res
     }
 }
 
-/// Reads a script: its session, the line that is being read, and whether lines are written back.
+/// Reads a script: its allocator, its session, the line that is being read, and whether lines are written back.
 #[derive(Drop)]
 pub struct ScriptReader {
+    heap: Global,
     session: Session,
     line: LineBuffer,
     echo: bool,
@@ -70,6 +66,7 @@ impl ScriptReader {
     {
         let line = LineBuffer::new(heap)?;
         Ok(ScriptReader {
+            heap,
             session: Session::new(),
             line,
             echo,
@@ -79,13 +76,13 @@ impl ScriptReader {
     /// Adds to `out` what is written for the line, and begins another.
     ///
     /// Where memory runs out, `out` is as it was.
-    fn end_line(&mut self, heap: Global, out: &mut Vec<u8>) -> Result<(), AllocError>
+    fn end_line(&mut self, out: &mut Vec<u8>) -> Result<(), AllocError>
         ensures { MatchResult result (λ _. ((output : List ℕ) × Ends (standing self.old) output (standing self.new) × (out.new.items ≡ out.old.items ++ output))) (λ _. out.new.items ≡ out.old.items) }
     {
         let line = self.line.as_slice();
-        let mut text = written_back(heap, self.echo, line)?;
-        let answer = self.session.line(heap, line)?;
-        push_answer(&mut text, heap, &answer)?;
+        let mut text = written_back(self.heap, self.echo, line)?;
+        let answer = self.session.line(self.heap, line)?;
+        push_answer(&mut text, self.heap, &answer)?;
         out.extend_from_slice(text.as_slice())?;
         self.line.clear();
         Ok(())
@@ -94,51 +91,42 @@ impl ScriptReader {
     /// Takes the next byte of the script, and adds to `out` what is written for it.
     ///
     /// Memory can run out only at a newline, and `out` is then as it was.
-    fn take(&mut self, heap: Global, byte: u8, out: &mut Vec<u8>) -> Result<(), AllocError>
+    fn take(&mut self, byte: u8, out: &mut Vec<u8>) -> Result<(), AllocError>
         ensures { MatchResult result (λ _. ((output : List ℕ) × Takes (standing self.old) byte output (standing self.new) × (out.new.items ≡ out.old.items ++ output))) (λ _. ((byte ≡ 10) × (out.new.items ≡ out.old.items))) }
     {
         if byte == b'\n' {
-            return self.end_line(heap, out);
+            return self.end_line(out);
         }
         self.line.push(byte);
-        Ok(())
-    }
-
-    /// Takes bytes of the script, one after another.
-    fn take_each(&mut self, heap: Global, bytes: &[u8], out: &mut Vec<u8>) -> Result<(), AllocError>
-        ensures { MatchResult result (λ _. Fed (standing self.old) bytes.now out.old.items out.new.items (standing self.new)) (λ _. Stopped (standing self.old) bytes.now out.old.items out.new.items) }
-    {
-        for byte in bytes {
-            self.take(heap, *byte, out)?;
-        }
         Ok(())
     }
 
     /// Takes the next bytes of the script, and adds to `out` what is written for the lines that they end.
     ///
     /// Where memory runs out, `out` has what is written for the lines before that one.
-    pub fn feed(&mut self, heap: Global, bytes: &[u8], out: &mut Vec<u8>) -> Result<(), AllocError>
+    pub fn feed(&mut self, bytes: &[u8], out: &mut Vec<u8>) -> Result<(), AllocError>
         ensures { MatchResult result (λ _. Fed (standing self.old) bytes.now out.old.items out.new.items (standing self.new)) (λ _. Stopped (standing self.old) bytes.now out.old.items out.new.items) }
     {
-        self.take_each(heap, bytes, out)
+        for &byte in bytes {
+            self.take(byte, out)?;
+        }
+        Ok(())
     }
 
     /// The script is at its end: a last line without a newline is answered, if it has any byte.
     ///
     /// Where memory runs out, `out` is as it was.
-    pub fn finish(&mut self, heap: Global, out: &mut Vec<u8>) -> Result<(), AllocError>
+    pub fn finish(&mut self, out: &mut Vec<u8>) -> Result<(), AllocError>
         ensures { MatchResult result (λ _. Finished (standing self.old) out.old.items out.new.items (standing self.new)) (λ _. ((0 < length (standing self.old).line) × (out.new.items ≡ out.old.items))) }
     {
         if self.line.as_slice().is_empty() {
             return Ok(());
         }
-        self.end_line(heap, out)
+        self.end_line(out)
     }
 }
 
 /// A script may be fed in pieces of any length.
-pub fn pieces_join() -> u8
+pub fn pieces_join()
     ensures { PiecesJoin }
-{
-    0
-}
+{}

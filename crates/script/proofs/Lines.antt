@@ -1,14 +1,13 @@
 -- A command's line is its first word, a space, and its arguments.
-use Rattle.std.proofs.Common.{◌≡◌, ℕ, suc, ◌^◌, ◌<◌, Bool, true, false, cond, eqb, ◌⊎◌, List, [], ◌∷◌, ◌++◌, length, IfSome, Some, None, Err, vec_items, codes, decimal, Option, sym, refl, ap, ◌∙◌, subst, inl, inr, ⊎_elim, arith, Bor, rules}
+use Rattle.std.proofs.Common.{◌≡◌, ℕ, suc, ◌^◌, ◌<◌, Bool, false, cond, eqb, ◌⊎◌, List, [], ◌∷◌, ◌++◌, length, IfSome, Some, None, Ok, Err, vec_items, codes, decimal, Option, Result, MatchResult, sym, refl, ap, ◌∙◌, subst, inl, inr, ⊎_elim, arith, Bor, rules}
 use Rattle.script.proofs.Forms.{has_space, word_lacks}
-use Rattle.script.specs.Parses.{first_word, NoCommand, Parses, fault_of}
+use Rattle.script.specs.Parses.{first_word, NoCommand}
 use Rattle.std.proofs.lemmas.Str.Pattern.{IsSplitOnceResult}
 use Rattle.std.proofs.lemmas.Bool.Decides.{nat_tests}
-use Rattle.script.proofs.Listed.{numbers_more}
-use Rattle.script.specs.Forms.{listed}
 use Rattle.sharing.specs.declared.chosen.Rule.{Rule}
 use Rattle.pile.specs.declared.base.BaseKind.{BaseKind}
 use Rattle.std.specs.Option.{option_map}
+use Rattle.std.specs.Result.{IsOkAnd}
 use Rattle.std.specs.Str.Iter.{LacksByte}
 use Rattle.std.specs.List.{AllByRecursion}
 use Rattle.std.specs.Str.{bytes_eq}
@@ -53,25 +52,25 @@ abbrev Small : ℕ → Type 0
 Small n = n < 2 ^ 32
 
 abbrev fits1 : One → Type 0
-fits1 x = Small x.word
+fits1 x = Small x.0
 
 abbrev fits2 : Two → Type 0
-fits2 x = Small x.first × fits1 x.rest
+fits2 x = Small x.0 × fits1 x.1
 
 abbrev fits3 : Three → Type 0
-fits3 x = Small x.first × fits2 x.rest
+fits3 x = Small x.0 × fits2 x.1
 
 abbrev form1 : One → List ℕ
-form1 x = decimal x.word
+form1 x = decimal x.0
 
 abbrev form2 : Two → List ℕ
-form2 x = decimal x.first ++ (32 ∷ form1 x.rest)
+form2 x = decimal x.0 ++ (32 ∷ form1 x.1)
 
 abbrev form3 : Three → List ℕ
-form3 x = decimal x.first ++ (32 ∷ form2 x.rest)
+form3 x = decimal x.0 ++ (32 ∷ form2 x.1)
 
 abbrev arg_fits : (v : Verb) → Arguments v → Type 0
-arg_fits verb.Clearing x = Unit {0} × fits1 x.rest
+arg_fits verb.Clearing x = Unit {0} × fits1 x.1
 arg_fits verb.Limit x = fits2 x
 arg_fits verb.Pots x = fits3 x
 arg_fits verb.Cap x = fits3 x
@@ -80,10 +79,10 @@ arg_fits verb.Need x = fits3 x
 arg_fits verb.Left x = fits1 x
 arg_fits verb.Reserve x = fits2 x
 arg_fits verb.Release x = fits2 x
-arg_fits verb.Share x = Unit {0} × (Small x.rest.first × (Small x.rest.rest.first × IfSome x.rest.rest.more (λ ns. (0 < length (vec_items ns.all)) × AllByRecursion Small (vec_items ns.all))))
+arg_fits verb.Share x = Unit {0} × (Small x.1.0 × (Small x.1.1.0 × IfSome x.1.1.1 (λ ns. (0 < length (vec_items ns.0)) × AllByRecursion Small (vec_items ns.0))))
 
 abbrev arg_form : (v : Verb) → Arguments v → List ℕ
-arg_form verb.Clearing x = base_word x.first ++ (32 ∷ form1 x.rest)
+arg_form verb.Clearing x = base_word x.0 ++ (32 ∷ form1 x.1)
 arg_form verb.Limit x = form2 x
 arg_form verb.Pots x = form3 x
 arg_form verb.Cap x = form3 x
@@ -92,16 +91,16 @@ arg_form verb.Need x = form3 x
 arg_form verb.Left x = form1 x
 arg_form verb.Reserve x = form2 x
 arg_form verb.Release x = form2 x
-arg_form verb.Share x = rule_word x.first ++ (32 ∷ (decimal x.rest.first ++ (32 ∷ followed (decimal x.rest.rest.first) (option_map (λ (ns : Numbers). numbers (vec_items ns.all)) x.rest.rest.more))))
+arg_form verb.Share x = rule_word x.0 ++ (32 ∷ (decimal x.1.0 ++ (32 ∷ followed (decimal x.1.1.0) (option_map (λ (ns : Numbers). numbers (vec_items ns.0)) x.1.1.1))))
 
 abbrev one : ℕ → One
-one a = record { word = a }
+one a = record { 0 = a }
 
 abbrev two : ℕ → ℕ → Two
-two a b = record { first = a; rest = one b }
+two a b = record { 0 = a; 1 = one b }
 
 abbrev three : ℕ → ℕ → ℕ → Three
-three a b c = record { first = a; rest = two b c }
+three a b c = record { 0 = a; 1 = two b c }
 
 -- a command with arguments: its first word, and these
 pub record Parts (c : Command) : Type 0 where
@@ -111,14 +110,14 @@ pub record Parts (c : Command) : Type 0 where
   pub line : written c ≡ line_of verb (arg_form verb args)
 
 -- the sums of a share, which may be none
-shared : (rule : Rule) (q n : ℕ) (vs : Numbers) (ws : List ℕ) → vec_items vs.all ≡ ws → Small q → Small n → AllByRecursion Small ws → (x : Arguments verb.Share) × arg_fits verb.Share x × (line_of verb.Share (rule_word rule ++ (32 ∷ (decimal q ++ (32 ∷ numbers (n ∷ ws))))) ≡ line_of verb.Share (arg_form verb.Share x))
-shared rule q n vs [] is a b c = (record { first = rule; rest = record { first = q; rest = record { first = n; more = None } } }, (tt, (a, (b, tt))), refl)
+shared : (rule : Rule) (q n : ℕ) (vs : Numbers) (ws : List ℕ) → vec_items vs.0 ≡ ws → Small q → Small n → AllByRecursion Small ws → (x : Arguments verb.Share) × arg_fits verb.Share x × (line_of verb.Share (rule_word rule ++ (32 ∷ (decimal q ++ (32 ∷ numbers (n ∷ ws))))) ≡ line_of verb.Share (arg_form verb.Share x))
+shared rule q n vs [] is a b c = (record { 0 = rule; 1 = record { 0 = q; 1 = record { 0 = n; 1 = None } } }, (tt, (a, (b, tt))), refl)
 shared rule q n vs (w ∷ ws) is a b c =
-    let some : 0 < length (vec_items vs.all) = rw is (omega arith) in
-    (record { first = rule; rest = record { first = q; rest = record { first = n; more = Some vs } } }, (tt, (a, (b, (some, subst (AllByRecursion Small) (sym is) c)))), ap (λ (l : List ℕ). line_of verb.Share (rule_word rule ++ (32 ∷ (decimal q ++ (32 ∷ (decimal n ++ (32 ∷ numbers l))))))) (sym is))
+    let some : 0 < length (vec_items vs.0) = rw is (omega arith) in
+    (record { 0 = rule; 1 = record { 0 = q; 1 = record { 0 = n; 1 = Some vs } } }, (tt, (a, (b, (some, subst (AllByRecursion Small) (sym is) c)))), ap (λ (l : List ℕ). line_of verb.Share (rule_word rule ++ (32 ∷ (decimal q ++ (32 ∷ (decimal n ++ (32 ∷ numbers l))))))) (sym is))
 
 parts : (c : Command) → Fits c → (c ≡ command.CoverAll) ⊎ Parts c
-parts (command.Clearing b n) f = inr (record { verb = verb.Clearing; args = record { first = b; rest = one n }; fits = (tt, f); line = refl })
+parts (command.Clearing b n) f = inr (record { verb = verb.Clearing; args = record { 0 = b; 1 = one n }; fits = (tt, f); line = refl })
 parts (command.Limit p x) f = inr (record { verb = verb.Limit; args = two p x; fits = f; line = refl })
 parts (command.Pots p m s) f = inr (record { verb = verb.Pots; args = three p m s; fits = (f.0, (f.1, f.2)); line = refl })
 parts (command.Cap l p x) f = inr (record { verb = verb.Cap; args = three l p x; fits = (f.0, (f.1, f.2)); line = refl })
@@ -129,7 +128,7 @@ parts (command.Left p) f = inr (record { verb = verb.Left; args = one p; fits = 
 parts (command.Reserve p s) f = inr (record { verb = verb.Reserve; args = two p s; fits = f; line = refl })
 parts (command.Release p s) f = inr (record { verb = verb.Release; args = two p s; fits = f; line = refl })
 parts (command.Share rule q n vs) f =
-    let x = shared rule q n (record { all = vs }) (vec_items vs) refl f.0 f.1 f.2 in
+    let x = shared rule q n (record { 0 = vs }) (vec_items vs) refl f.0 f.1 f.2 in
     inr (record { verb = verb.Share; args = x.0; fits = x.1; line = x.2 })
 
 -- the verb that a word is, so that no two verbs have one word
@@ -203,39 +202,19 @@ first_word_command c f = ⊎_elim {A = c ≡ command.CoverAll} {B = Parts c} alo
     with_parts p = (p.verb, ap first_word p.line ∙ first_word_space (verb_word p.verb) _ (verb_lacks_space p.verb))
 
 -- a line whose first word is no verb
-no_verb : (line word : List ℕ) → first_word line ≡ word → ((v : Verb) → Unit {0} → word ≡ verb_word v → ⊥) → NoCommand line × ((v : Verb) → first_word line ≡ verb_word v → ⊥)
+no_verb : (line word : List ℕ) → first_word line ≡ word → ((v : Verb) → word ≡ verb_word v → ⊥) → NoCommand line × ((v : Verb) → first_word line ≡ verb_word v → ⊥)
 no_verb line word first none =
-    ((λ c f is. let v = first_word_command c f in none v.0 tt (sym first ∙ ap first_word is ∙ v.1)), λ v e. none v tt (sym first ∙ e))
+    ((λ c f is. let v = first_word_command c f in none v.0 (sym first ∙ ap first_word is ∙ v.1)), λ v e. none v (sym first ∙ e))
 
-pub no_verb_alone : (line : List ℕ) → LacksByte 32 line → ((v : Verb) → Unit {0} → line ≡ verb_word v → ⊥) → NoCommand line × ((v : Verb) → first_word line ≡ verb_word v → ⊥)
+pub no_verb_alone : (line : List ℕ) → LacksByte 32 line → ((v : Verb) → line ≡ verb_word v → ⊥) → NoCommand line × ((v : Verb) → first_word line ≡ verb_word v → ⊥)
 no_verb_alone line lacks = no_verb line line (first_word_all line lacks)
 
-pub no_verb_first : (line : List ℕ) (r : Option (Bor (List ℕ) × Bor (List ℕ))) (w v : Bor (List ℕ)) → IsSplitOnceResult 32 line r → r ≡ Some (w, v) → ((v : Verb) → Unit {0} → w.now ≡ verb_word v → ⊥) → NoCommand line × ((v : Verb) → first_word line ≡ verb_word v → ⊥)
-no_verb_first line r w v split some = no_verb line w.now (first_before line r w v split some)
-  where
-    first_before : (line : List ℕ) (r : Option (Bor (List ℕ) × Bor (List ℕ))) (w v : Bor (List ℕ)) → IsSplitOnceResult 32 line r → r ≡ Some (w, v) → first_word line ≡ w.now
-    first_before line r w v split some =
-        let p = word_lacks line r (w, v) split some in ap first_word p.0 ∙ first_word_space w.now v.now p.1
+pub no_verb_first : (word rest : List ℕ) → LacksByte 32 word → ((v : Verb) → word ≡ verb_word v → ⊥) → NoCommand (word ++ (32 ∷ rest)) × ((v : Verb) → first_word (word ++ (32 ∷ rest)) ≡ verb_word v → ⊥)
+no_verb_first word rest lacks = no_verb (word ++ (32 ∷ rest)) word (first_word_space word rest lacks)
 
 -- a line whose first word is v
 pub line_of_lem : (line : List ℕ) (r : Option (Bor (List ℕ) × Bor (List ℕ))) (w t : Bor (List ℕ)) (v : Verb) → IsSplitOnceResult 32 line r → r ≡ Some (w, t) → w.now ≡ verb_word v → line ≡ line_of v t.now
 line_of_lem line r w t v split some is = (word_lacks line r (w, t) split some).0 ∙ ap (λ (l : List ℕ). l ++ (32 ∷ t.now)) is
-
-only_share : (v : Verb) → allocates v ≡ true → v ≡ verb.Share
-only_share verb.Clearing e = cc
-only_share verb.Limit e = cc
-only_share verb.Pots e = cc
-only_share verb.Cap e = cc
-only_share verb.Cover e = cc
-only_share verb.Need e = cc
-only_share verb.Left e = cc
-only_share verb.Reserve e = cc
-only_share verb.Release e = cc
-only_share verb.Share e = refl
-
-pub usage : (line text : List ℕ) (v : Verb) (e : Unread) → line ≡ line_of v text → Reads (allocates v) Fits written (line_of v text) (Err e) → Parses line (Err (fault_of v e))
-usage line text v NoMemory is none = ap first_word is ∙ first_word_space (verb_word v) text (verb_lacks_space v) ∙ ap verb_word (only_share v none)
-usage line text v NoForm is none = ((λ c f e. none c f (sym is ∙ e)), ap first_word is ∙ first_word_space (verb_word v) text (verb_lacks_space v))
 
 -- a line whose first word is v is that of a command with v's arguments
 line_parts : (v : Verb) (text : List ℕ) (c : Command) → Fits c → line_of v text ≡ written c → (x : Arguments v) × arg_fits v x × (text ≡ arg_form v x)
@@ -254,10 +233,10 @@ pub unread_line : (b : Bool) (v : Verb) (text : List ℕ) (e : Unread) → Reads
 unread_line b v text NoMemory unread = unread
 unread_line b v text NoForm unread = λ c f is. let p = line_parts v text c f is in unread p.0 p.1 p.2
 
-abbrev form_of : Numbers → List ℕ
-form_of ns = numbers (vec_items ns.all)
-
--- a number and the numbers that follow it, if any do
-pub share_line : (n : ℕ) (more : Option Numbers) (ws : List ℕ) → IfSome more (λ ns. (0 < length (vec_items ns.all)) × AllByRecursion Small (vec_items ns.all)) → ws ≡ listed more → AllByRecursion Small ws × (followed (decimal n) (option_map form_of more) ≡ numbers (n ∷ ws))
-share_line n None ws fits is = (rw is tt, rw is refl)
-share_line n (Some ns) ws fits is = (rw is fits.1, rw is (sym (numbers_more n (vec_items ns.all) fits.0)))
+-- a command made of arguments that are read, if its line is theirs
+pub made : (v : Verb) (text : List ℕ) (r : Result (Arguments v) Unread) (s : Result Command Unread) (Makes : Arguments v → Command → Type 0) → Reads (allocates v) (arg_fits v) (arg_form v) text r → MatchResult r (λ x. IsOkAnd s (Makes x)) (λ e. s ≡ Err e) → ((x : Arguments v) (c : Command) → Makes x c → arg_fits v x → Fits c × (line_of v (arg_form v x) ≡ written c)) → Reads (allocates v) Fits written (line_of v text) s
+made v text (Ok x) (Ok c) Makes read cases line =
+    let p = line x c cases read.0 in (p.0, ap (line_of v) read.1 ∙ p.1)
+made v text (Ok x) (Err e) Makes read cases line = absurd cases
+made v text (Err e) s Makes read cases line =
+    subst (λ (t : Result Command Unread). Reads (allocates v) Fits written (line_of v text) t) (sym cases) (unread_line (allocates v) v text e read)

@@ -5,4 +5,4 @@ use Rattle.script.specs.declared.form.Numbers.{Numbers}
 -- the numbers, none where they are left out
 abbrev pub listed : Option Numbers → List ℕ
 listed None = []
-listed (Some ns) = vec_items ns.all
+listed (Some ns) = vec_items ns.0

@@ -1,5 +1,5 @@
 -- A number and its written form.
-use Rattle.std.specs.Prelude.{◌≡◌, ℕ, zero, suc, ◌^◌, ◌<◌, true, false, List, length, Ok, Err, decimal, Result, ◌≢◌, slice_index_or, refl}
+use Rattle.std.specs.Prelude.{◌≡◌, ℕ, zero, suc, ◌^◌, ◌<◌, true, false, List, length, Some, None, Ok, Err, decimal, Option, Result, ◌≢◌, slice_index_or, refl}
 use Rattle.std.proofs.Common.{sym, ap, ◌∙◌, arith}
 use Rattle.std.proofs.lemmas.Bool.Decides.{nat_tests}
 use Rattle.std.specs.Str.Iter.{LacksByte}
@@ -7,7 +7,8 @@ use Rattle.std.specs.Str.Parse.{ParsesUnsigned, AllDigits, digits_value}
 use Rattle.std.proofs.lemmas.Fmt.{decimal_nonempty, first_decimal, decimal_digit, decimal-digits_value, parse-decimal, digits_decimal}
 use Rattle.std.proofs.lemmas.Str.Parse.{IsNumeralModel, numerals_by_value, tells_digits, digit_at, parse_plain}
 use Rattle.std.proofs.lemmas.Result.{OkIff-at_ok}
-use Rattle.script.specs.Reads.{begins_plain}
+use Rattle.std.specs.Result.{result_ok}
+use Rattle.script.specs.Reads.{ReadsWord, begins_plain}
 
 own : IsNumeralModel (AllDigits 10) (digits_value 10)
 own = numerals_by_value (AllDigits 10) tells_digits
@@ -41,3 +42,14 @@ pub number_unread : {E : Type 0} (n : ℕ) (bs : List ℕ) (r : Result ℕ E) (e
 number_unread n bs r e reads err small is =
     let ok = parse-decimal 32 n bs r small (omega arith) is reads in
     let z : ◌≡◌ {A = ℕ} 0 1 = cc in omega arith
+
+pub number_word : {E : Type 0} (bs : List ℕ) (r : Result ℕ E) (o : Option ℕ) → ParsesUnsigned 32 10 bs r → o ≡ result_ok r → true ≡ begins_plain bs → ReadsWord (λ n. n < 2 ^ 32) decimal bs o
+number_word {E = E} bs (Ok n) (Some m) reads is plain =
+    let same : m ≡ n = cc in
+    let ok : ◌≡◌ {A = Result ℕ E} (Ok n) (Ok n) = refl in
+    rw same (number_read n bs (Ok n) reads ok plain)
+number_word bs (Ok n) None reads is plain = absurd (cc)
+number_word bs (Err e) (Some m) reads is plain = absurd (cc)
+number_word {E = E} bs (Err e) None reads is plain = λ n small.
+    let err : ◌≡◌ {A = Result ℕ E} (Err e) (Err e) = refl in
+    number_unread n bs (Err e) e reads err small

@@ -15,6 +15,11 @@ abbrev pub first_word : List ℕ → List ℕ
 first_word [] = []
 first_word (b ∷ bs) = cond (b == 32) [] (b ∷ first_word bs)
 
+-- r is the verb whose word this is; else there is none
+abbrev pub BeginsWith : List ℕ → Result Verb Fault → Type 0
+BeginsWith word (Ok v) = word ≡ verb_word v
+BeginsWith word (Err e) = (e ≡ Unknown) × ((v : Verb) → word ≢ verb_word v)
+
 -- no command is written so
 abbrev pub NoCommand : List ℕ → Type 0
 NoCommand line = (c : Command) → Fits c → line ≢ written c

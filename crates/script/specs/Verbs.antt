@@ -3,6 +3,7 @@ use Rattle.std.specs.Prelude.{ℕ, Bool, true, false, List, codes}
 use Rattle.script.specs.declared.command.Verb.{Verb}
 use Rattle.script.specs.declared.command.Verb.TheVariants as verb
 
+-- the word of each verb
 abbrev pub verb_word : Verb → List ℕ
 verb_word verb.Clearing = codes "clearing"
 verb_word verb.Limit = codes "limit"

@@ -1,14 +1,15 @@
-// What a script's commands answer, and how it is written.
-ghost use Rattle.std.specs.Prelude.{◌≡◌, ◌++◌, IfOk, string_bytes, codes};
-ghost use Rattle.script.specs.declared.answer.Answer.TheVariants.{Refused, Bad};
-ghost use Rattle.script.specs.Answers.{answer_line, reason_text, verdict_word, usage_text, each_spaced};
+//! What a script's commands answer, and how it is written.
+ghost use Rattle.std.specs.Prelude.{◌≡◌, ◌++◌, IfOk, Some, string_bytes, codes};
+ghost use Rattle.std.specs.Fmt.{DisplaysOnOk};
+ghost use Rattle.script.specs.Answers.{answer_line, reason_text, verdict_word, each_spaced};
 
 use crate::command::Verb;
 use clearing::Refusal;
 use std::alloc::{AllocError, Global};
+use std::fmt;
 
 /// Why a line changed nothing and answers `bad`.
-#[derive(Clone, Copy)]
+#[derive(Clone, Copy, Debug, PartialEq, Eq)]
 pub enum Reason {
     /// It is longer than 4,096 bytes.
     TooLong,
@@ -64,100 +65,95 @@ pub enum Answer {
     },
 }
 
-fn usage(verb: Verb) -> &'static str
-    ensures { result.now ≡ usage_text verb }
-{
-    match verb {
-        Verb::Clearing => "usage: clearing BASE CAPS",
-        Verb::Limit => "usage: limit P X",
-        Verb::Pots => "usage: pots P MONEY SECURITIES",
-        Verb::Cap => "usage: cap LAYER P X",
-        Verb::Cover => "usage: cover [P]",
-        Verb::Need => "usage: need P SUM PERCENT",
-        Verb::Left => "usage: left P",
-        Verb::Reserve => "usage: reserve P S",
-        Verb::Release => "usage: release P S",
-        Verb::Share => "usage: share RULE Q LENGTH V1 V2 ..",
+impl Reason {
+    /// The reason for a reader.
+    fn text(self) -> &'static str
+        ensures { result.now ≡ reason_text self }
+    {
+        match self {
+            Reason::TooLong => "longer than 4096 bytes",
+            Reason::NotText => "not text",
+            Reason::Unknown => "no such command",
+            Reason::Usage(verb) => verb.usage(),
+            Reason::TooManyCaps => "at most 2 cap layers",
+            Reason::NoLimits => "no limit sheet in this clearing",
+            Reason::NoPots => "no pots in this clearing",
+            Reason::NoLayer => "no such cap layer in this clearing",
+            Reason::NoOrder => "an order has 1 to 1000000 lots and 0 to 100 percent",
+        }
     }
 }
 
-fn reason_text(reason: Reason) -> &'static str
-    ensures { result.now ≡ reason_text reason }
-{
-    match reason {
-        Reason::TooLong => "longer than 4096 bytes",
-        Reason::NotText => "not text",
-        Reason::Unknown => "no such command",
-        Reason::TooManyCaps => "at most 2 cap layers",
-        Reason::NoLimits => "no limit sheet in this clearing",
-        Reason::NoPots => "no pots in this clearing",
-        Reason::NoLayer => "no such cap layer in this clearing",
-        Reason::NoOrder => "an order has 1 to 1000000 lots and 0 to 100 percent",
-        Reason::Usage(verb) => usage(verb),
+impl fmt::Display for Reason {
+    ghost output = { λ reason. Some (reason_text reason) };
+
+    fn fmt<W: fmt::Write>(&self, f: &mut fmt::Formatter<W>) -> fmt::Result {
+        f.write_str(self.text())
     }
 }
 
+/// The word of a verdict.
 fn verdict(said: bool) -> &'static str
     ensures { result.now ≡ verdict_word said }
 {
     if said { "yes" } else { "no" }
 }
 
-fn shares_text(heap: Global, shares: &[u32]) -> Result<String, AllocError>
-    ensures { IfOk result (λ s. string_bytes s ≡ codes "shares" ++ each_spaced shares.now) }
+/// Writes shares, each after a space.
+fn write_shares<W: fmt::Write>(shares: &[u32], f: &mut fmt::Formatter<W>) -> fmt::Result
+    ensures { DisplaysOnOk W.write_str_gives f.old result (Some (codes "shares" ++ each_spaced shares.now)) f.new }
 {
-    let mut text = String::from_str(heap, "shares")?;
+    f.write_str("shares")?;
     for share in shares {
-        let word = format!(in heap; " {share}")?;
-        text.push_str(word.as_str())?;
+        write!(f, " {share}")?;
     }
-    Ok(text)
+    Ok(())
 }
 
-fn refused_text(heap: Global, refusal: Refusal) -> Result<String, AllocError>
-    ensures { IfOk result (λ s. string_bytes s ≡ answer_line (Refused refusal)) }
-{
-    let number = refusal.number();
-    format!(in heap; "refused {number}")
-}
+impl fmt::Display for Answer {
+    ghost output = { λ answer. Some (answer_line answer) };
 
-fn bad_text(heap: Global, line: u64, reason: Reason) -> Result<String, AllocError>
-    ensures { IfOk result (λ s. string_bytes s ≡ answer_line (Bad line reason)) }
-{
-    let why = reason_text(reason);
-    format!(in heap; "bad line {line}: {why}")
+    fn fmt<W: fmt::Write>(&self, f: &mut fmt::Formatter<W>) -> fmt::Result {
+        match self {
+            Answer::ClearingReady => f.write_str("clearing ok"),
+            Answer::Set => f.write_str("set"),
+            Answer::Refused(refusal) => write!(f, "refused {}", refusal.number()),
+            Answer::Cover {
+                participant,
+                free,
+                held,
+            } => write!(f, "cover {participant} free {free} held {held}"),
+            Answer::CoverAll { free, held } => write!(f, "cover all free {free} held {held}"),
+            Answer::Need {
+                participant,
+                visible,
+                hidden,
+                covered,
+            } => {
+                let word = verdict(*covered);
+                write!(
+                    f,
+                    "need {participant} visible {visible} hidden {hidden} {word}"
+                )
+            }
+            Answer::Left {
+                participant,
+                money,
+                securities,
+            } => write!(
+                f,
+                "left {participant} money {money} securities {securities}"
+            ),
+            Answer::Verdict(said) => f.write_str(verdict(*said)),
+            Answer::Shares(shares) => write_shares(shares.as_slice(), f),
+            Answer::Bad { line, reason } => write!(f, "bad line {line}: {reason}"),
+        }
+    }
 }
 
 /// The line that an answer is written as.
 pub fn write(heap: Global, answer: &Answer) -> Result<String, AllocError>
     ensures { IfOk result (λ s. string_bytes s ≡ answer_line answer.now) }
 {
-    match answer {
-        Answer::ClearingReady => String::from_str(heap, "clearing ok"),
-        Answer::Set => String::from_str(heap, "set"),
-        Answer::Refused(refusal) => refused_text(heap, *refusal),
-        Answer::Cover {
-            participant,
-            free,
-            held,
-        } => format!(in heap; "cover {participant} free {free} held {held}"),
-        Answer::CoverAll { free, held } => format!(in heap; "cover all free {free} held {held}"),
-        Answer::Need {
-            participant,
-            visible,
-            hidden,
-            covered,
-        } => {
-            let word = verdict(*covered);
-            format!(in heap; "need {participant} visible {visible} hidden {hidden} {word}")
-        }
-        Answer::Left {
-            participant,
-            money,
-            securities,
-        } => { format!(in heap; "left {participant} money {money} securities {securities}") }
-        Answer::Verdict(said) => String::from_str(heap, verdict(*said)),
-        Answer::Shares(shares) => shares_text(heap, shares.as_slice()),
-        Answer::Bad { line, reason } => bad_text(heap, *line, *reason),
-    }
+    format!(in heap; "{answer}")
 }

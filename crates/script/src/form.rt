@@ -1,4 +1,4 @@
-// Written forms: a word of a line, and words one after another with a space between.
+//! Written forms: a word of a line, and words one after another with a space between.
 ghost use Rattle.std.specs.Prelude.{◌≡◌, ℕ, ◌^◌, ◌<◌, Bool, true, false, List, ◌∷◌, ◌++◌, length, IfSome, decimal};
 ghost use Rattle.std.specs.Str.Iter.{LacksByte};
 ghost use Rattle.script.specs.Reads.{ReadsWord, Reads, begins_plain};
@@ -11,16 +11,18 @@ ghost use Rattle.std.proofs.Common.{rules};
 
 use pile::BaseKind;
 use sharing::Rule;
-use std::alloc::{AllocError, AllocFailed, Global};
+use std::alloc::{AllocFailed, Global};
 
-// Why a text was not read: it is no written form, or memory ran out.
-#[derive(Clone, Copy)]
+/// Why a text was not read: it is no written form, or memory ran out.
+#[derive(Clone, Copy, Debug, PartialEq, Eq)]
 pub enum Unread {
     NoForm,
     NoMemory,
 }
 
-// A value that is written as one word.
+/// A value that is written as one word.
+///
+/// It is no `FromStr`: that trait has no law, and reading words in a row needs `plain`.
 pub trait Word: Sized {
     ghost fits: { Self → Type 0 };
 
@@ -43,10 +45,7 @@ impl Word for u32 {
         if !is_plain(text.as_bytes()) {
             return None;
         }
-        match text.parse::<u32>() {
-            Ok(n) => Some(n),
-            Err(_) => None,
-        }
+        text.parse().ok()
     }
 }
 
@@ -83,7 +82,7 @@ impl Word for BaseKind {
     }
 }
 
-// A value that is written as words with a space between each two.
+/// A value that is written as words with a space between each two.
 pub trait Written: Sized {
     // Whether reading it may need memory.
     ghost allocates: { Bool };
@@ -96,121 +95,82 @@ pub trait Written: Sized {
         ensures { Reads allocates fits form text.now result };
 }
 
-// One word, the last of a line.
+/// One word, the last of a line.
 #[derive(Drop)]
-pub struct Last<A> {
-    pub word: A,
-}
+pub struct Last<A>(pub A);
 
 impl<A: Word> Written for Last<A> {
     ghost allocates = { false };
 
-    ghost fits = { λ x. A.Word.fits x.word };
+    ghost fits = { λ x. A.Word.fits x.0 };
 
-    ghost form = { λ x. A.Word.form x.word };
+    ghost form = { λ x. A.Word.form x.0 };
 
     fn read(_heap: Global, text: &str) -> Result<Last<A>, Unread> {
-        let Some(word) = A::read(text) else {
-            return Err(Unread::NoForm);
-        };
-        Ok(Last { word })
+        let word = A::read(text).ok_or(Unread::NoForm)?;
+        Ok(Last(word))
     }
 }
 
-// One word, and what follows it.
+/// One word, and what follows it.
 #[derive(Drop)]
-pub struct Then<A, B> {
-    pub first: A,
-    pub rest: B,
-}
+pub struct Then<A, B>(pub A, pub B);
 
 impl<A: Word + Drop, B: Written> Written for Then<A, B> {
     ghost allocates = { B.Written.allocates };
 
-    ghost fits = { λ x. A.Word.fits x.first × B.Written.fits x.rest };
+    ghost fits = { λ x. A.Word.fits x.0 × B.Written.fits x.1 };
 
-    ghost form = { λ x. A.Word.form x.first ++ (32 ∷ B.Written.form x.rest) };
+    ghost form = { λ x. A.Word.form x.0 ++ (32 ∷ B.Written.form x.1) };
 
     fn read(heap: Global, text: &str) -> Result<Then<A, B>, Unread> {
-        let Some((word, after)) = text.split_once(' ') else {
-            return Err(Unread::NoForm);
-        };
-        let Some(first) = A::read(word) else {
-            return Err(Unread::NoForm);
-        };
+        let (word, after) = text.split_once(' ').ok_or(Unread::NoForm)?;
+        let first = A::read(word).ok_or(Unread::NoForm)?;
         let rest = B::read(heap, after)?;
-        Ok(Then { first, rest })
+        Ok(Then(first, rest))
     }
 }
 
-// One word, and what follows it, if anything does.
+/// One word, and what follows it, if anything does.
 #[derive(Drop)]
-pub struct ThenMore<A, B> {
-    pub first: A,
-    pub more: Option<B>,
-}
+pub struct ThenMore<A, B>(pub A, pub Option<B>);
 
 impl<A: Word + Drop, B: Written> Written for ThenMore<A, B> {
     ghost allocates = { B.Written.allocates };
 
-    ghost fits = { λ x. A.Word.fits x.first × IfSome x.more B.Written.fits };
+    ghost fits = { λ x. A.Word.fits x.0 × IfSome x.1 B.Written.fits };
 
-    ghost form = { λ x. followed (A.Word.form x.first) (option_map B.Written.form x.more) };
+    ghost form = { λ x. followed (A.Word.form x.0) (option_map B.Written.form x.1) };
 
     fn read(heap: Global, text: &str) -> Result<ThenMore<A, B>, Unread> {
         let Some((word, after)) = text.split_once(' ') else {
-            return match A::read(text) {
-                Some(first) => Ok(ThenMore { first, more: None }),
-                None => Err(Unread::NoForm),
-            };
+            let first = A::read(text).ok_or(Unread::NoForm)?;
+            return Ok(ThenMore(first, None));
         };
-        let Some(first) = A::read(word) else {
-            return Err(Unread::NoForm);
-        };
+        let first = A::read(word).ok_or(Unread::NoForm)?;
         let more = B::read(heap, after)?;
-        Ok(ThenMore {
-            first,
-            more: Some(more),
-        })
+        Ok(ThenMore(first, Some(more)))
     }
 }
 
-// Numbers, at least one.
+/// Numbers, at least one.
 #[derive(Drop)]
-pub struct Numbers {
-    pub all: Vec<u32>,
-}
+pub struct Numbers(pub Vec<u32>);
 
 impl Written for Numbers {
     ghost allocates = { true };
 
-    ghost fits = { λ x. (0 < length x.all.items) × AllByRecursion (λ n. n < 2 ^ 32) x.all.items };
+    ghost fits = { λ x. (0 < length x.0.items) × AllByRecursion (λ n. n < 2 ^ 32) x.0.items };
 
-    ghost form = { λ x. numbers x.all.items };
+    ghost form = { λ x. numbers x.0.items };
 
     fn read(heap: Global, text: &str) -> Result<Numbers, Unread> {
         let mut all = Vec::new(heap);
-        let mut rest = text;
-        while let Some((word, after)) = rest.split_once(' ') {
-            let Some(number) = u32::read(word) else {
-                return Err(Unread::NoForm);
-            };
+        for word in text.split(' ') {
+            let number = u32::read(word).ok_or(Unread::NoForm)?;
             all.push(number)?;
-            rest = after;
         }
-        let Some(last) = u32::read(rest) else {
-            return Err(Unread::NoForm);
-        };
-        all.push(last)?;
-        Ok(Numbers { all })
-    }
-}
-
-impl From<AllocError> for Unread {
-    ghost from_gives = { λ _ y. y ≡ NoMemory };
-
-    fn from(_error: AllocError) -> Unread {
-        Unread::NoMemory
+        Ok(Numbers(all))
     }
 }
 
@@ -222,9 +182,9 @@ impl<T: Drop> From<AllocFailed<T>> for Unread {
     }
 }
 
-// Whether digits begin as a number is written: no sign, and no zero before others.
+/// Whether digits begin as a number is written: no sign, and no zero before others.
 fn is_plain(digits: &[u8]) -> bool
     ensures { result ≡ begins_plain digits.now }
 {
-    !digits.is_empty() && digits[0] != b'+' && (digits[0] != b'0' || digits.len() == 1)
+    !matches!(digits, [] | [b'+', ..] | [b'0', _, ..])
 }

@@ -1,4 +1,4 @@
-// Day scripts as text: a line is read to the command that it is the written form of, and an answer is written as a line.
+//! Day scripts as text: a line is read to the command that it is the written form of, and an answer is written as a line.
 #![tactic(auto)]
 
 mod answer;

@@ -6,6 +6,11 @@ use Rattle.pile.specs.Parts as told
 use Rattle.script.specs.declared.answer.Answer.{Answer}
 use Rattle.script.specs.declared.answer.Answer.TheVariants as answer
 use Rattle.script.specs.declared.answer.Reason.{Reason}
+use Rattle.script.specs.declared.answer.Reason.TheVariants.{Unknown, Usage}
+use Rattle.script.specs.declared.reading.Fault.{Fault}
+use Rattle.script.specs.declared.reading.Fault.TheVariants as fault
+use Rattle.session.specs.declared.obstacle.Obstacle.{Obstacle}
+use Rattle.session.specs.declared.obstacle.Obstacle.TheVariants.{RuledOut, NoMemory}
 
 -- what a line is answered
 pub data Reply : Type 0 where
@@ -37,6 +42,18 @@ reply_of (answer.Bad n reason) = bad n reason
 abbrev pub said : Result Answer Reason → Result Reply Reason
 said (Ok a) = Ok (reply_of a)
 said (Err reason) = Err reason
+
+-- what an answer says, or the reason that there is none; nothing where memory ran out
+abbrev pub outcome : Result Answer Obstacle → Option (Result Reply Reason)
+outcome (Ok a) = Some (Ok (reply_of a))
+outcome (Err (RuledOut reason)) = Some (Err reason)
+outcome (Err NoMemory) = None
+
+-- the obstacle that a line's fault is
+abbrev pub obstacle_of : Fault → Obstacle
+obstacle_of fault.Unknown = RuledOut Unknown
+obstacle_of (fault.Usage verb) = RuledOut (Usage verb)
+obstacle_of fault.NoMemory = NoMemory
 
 -- what an answer says, if there is one
 abbrev pub said_if : Option Answer → Option Reply

@@ -1,27 +1,11 @@
 //! The shares that a sharing rule is asked for.
-ghost use Rattle.std.specs.Prelude.{length, IfOk};
+ghost use Rattle.std.specs.Prelude.{IfOk};
 ghost use Rattle.session.specs.Replies.{reply_of};
 ghost use Rattle.session.specs.Obeyed.{Shared};
 
 use script::Answer;
 use sharing::{Rule, SharingRule};
 use std::alloc::{AllocError, Global};
-
-/// What the rule answers with `out` as its share array.
-fn shared_in(
-    heap: Global,
-    rule: Rule,
-    sums: &[u32],
-    lots: u32,
-    out: &mut [u32],
-) -> Result<Answer, AllocError>
-    ensures { IfOk result (λ a. Shared rule sums.now lots (length out.old) (reply_of a)) }
-{
-    if !rule.share(sums, lots, out) {
-        return Ok(Answer::Verdict(false));
-    }
-    Ok(Answer::Shares(Vec::from_slice(heap, out)?))
-}
 
 /// What the rule answers with a share array of `room` numbers.
 ///
@@ -38,6 +22,12 @@ pub fn shared(
     if room > 64 {
         return Ok(Answer::Verdict(false));
     }
-    let mut out = [0u32; 64];
-    shared_in(heap, rule, sums, lots, &mut out[0..room as usize])
+    // Of a fixed length, not a `Vec`: a rule that says no must not be able to fail for want of memory.
+    let mut buffer = [0u32; 64];
+    // `as`, since `usize` has no `From<u32>`, and a `try_from` could not fail.
+    let out = &mut buffer[..room as usize];
+    if !rule.share(sums, lots, out) {
+        return Ok(Answer::Verdict(false));
+    }
+    Ok(Answer::Shares(Vec::from_slice(heap, out)?))
 }

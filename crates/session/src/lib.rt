@@ -3,8 +3,10 @@
 
 mod asked_shares;
 mod obeying;
+mod obstacle;
 mod order_need;
 mod run;
 mod totals;
 
+pub use obstacle::Obstacle;
 pub use run::Session;

@@ -1,41 +1,38 @@
 //! Each command, obeyed by a pile.
-ghost use Rattle.std.specs.Prelude.{◌≡◌, IfOk, Ok, OnErr};
+ghost use Rattle.std.specs.Prelude.{◌≡◌, IfSome, None, Ok};
 ghost use Rattle.pile.specs.Parts.{told_by};
 ghost use Rattle.pile.specs.Piles.{pile_makeup};
 ghost use Rattle.script.specs.declared.command.Command.TheVariants.{Clearing, Limit, Pots, Cap, CoverAll, Cover, Left, Reserve, Release};
-ghost use Rattle.session.specs.Replies.{said, reply_of, set_said};
+ghost use Rattle.session.specs.Replies.{said, outcome, reply_of, set_said};
 ghost use Rattle.session.specs.Obeyed.{Answers, after, NeedsMemory};
 
 use crate::asked_shares::shared;
+use crate::obstacle::Obstacle;
 use crate::order_need::need;
 use crate::totals::totals;
 use clearing::Clearing;
-use pile::{BaseKind, Pile, SetAnswer};
+use pile::{BaseKind, Pile, SetError};
 use script::{Answer, Command, Reason};
-use std::alloc::{AllocError, Global};
+use std::alloc::Global;
 
 /// A new clearing of a base and caps, every figure 0.
 fn clearing(pile: &mut Pile, base: BaseKind, caps: u32) -> Result<Answer, Reason>
     ensures answer { Answers (pile_makeup pile.old) (Clearing base caps) (said result) }
     ensures inside { pile_makeup pile.new ≡ after (pile_makeup pile.old) (Clearing base caps) }
 {
-    match Pile::new(base, caps) {
-        Some(new) => {
-            *pile = new;
-            Ok(Answer::ClearingReady)
-        }
-        None => Err(Reason::TooManyCaps),
-    }
+    let new = Pile::new(base, caps).ok_or(Reason::TooManyCaps)?;
+    *pile = new;
+    Ok(Answer::ClearingReady)
 }
 
 /// A setter's answer; `missing` tells that the clearing has no such figure.
-fn set_answer(answer: SetAnswer, missing: Reason) -> Result<Answer, Reason>
+fn set_answer(answer: Result<(), SetError>, missing: Reason) -> Result<Answer, Reason>
     ensures { said result ≡ set_said (told_by answer) missing }
 {
     match answer {
-        SetAnswer::Done => Ok(Answer::Set),
-        SetAnswer::Refused(refusal) => Ok(Answer::Refused(refusal)),
-        SetAnswer::NoSuchPart => Err(missing),
+        Ok(()) => Ok(Answer::Set),
+        Err(SetError::Refused(refusal)) => Ok(Answer::Refused(refusal)),
+        Err(SetError::NoSuchPart) => Err(missing),
     }
 }
 
@@ -89,14 +86,12 @@ fn cover_all(pile: &Pile) -> Answer
 fn left(pile: &Pile, participant: u32) -> Result<Answer, Reason>
     ensures { Answers (pile_makeup pile.now) (Left participant) (said result) }
 {
-    match pile.left(participant) {
-        Some((money, securities)) => Ok(Answer::Left {
-            participant,
-            money,
-            securities,
-        }),
-        None => Err(Reason::NoPots),
-    }
+    let (money, securities) = pile.left(participant).ok_or(Reason::NoPots)?;
+    Ok(Answer::Left {
+        participant,
+        money,
+        securities,
+    })
 }
 
 /// Lots from free to held.
@@ -115,50 +110,43 @@ fn release(pile: &mut Pile, participant: u32, lots: u32) -> Answer
     Answer::Verdict(pile.release(participant, lots))
 }
 
-/// Obeys a command; `Err` inside says why the pile rules it out.
-pub fn obey(
-    pile: &mut Pile,
-    heap: Global,
-    command: &Command,
-) -> Result<Result<Answer, Reason>, AllocError>
-    ensures answer { IfOk result (λ a. Answers (pile_makeup pile.old) command.now (said a)) }
+/// Obeys a command; an `Err` says why there is no answer.
+pub fn obey(pile: &mut Pile, heap: Global, command: &Command) -> Result<Answer, Obstacle>
+    ensures answer { IfSome (outcome result) (Answers (pile_makeup pile.old) command.now) }
     ensures inside { pile_makeup pile.new ≡ after (pile_makeup pile.old) command.now }
-    ensures failed { OnErr result (NeedsMemory command.now) }
+    ensures failed { outcome result ≡ None → NeedsMemory command.now }
 {
-    match command {
-        Command::Clearing { base, caps } => Ok(clearing(pile, *base, *caps)),
+    Ok(match command {
+        Command::Clearing { base, caps } => clearing(pile, *base, *caps)?,
         Command::Limit {
             participant,
             limit: figure,
-        } => Ok(limit(pile, *participant, *figure)),
+        } => limit(pile, *participant, *figure)?,
         Command::Pots {
             participant,
             money,
             securities,
-        } => Ok(pots(pile, *participant, *money, *securities)),
+        } => pots(pile, *participant, *money, *securities)?,
         Command::Cap {
             layer,
             participant,
             cap: figure,
-        } => Ok(cap(pile, *layer, *participant, *figure)),
-        Command::CoverAll => Ok(Ok(cover_all(pile))),
-        Command::Cover { participant } => Ok(Ok(cover(pile, *participant))),
+        } => cap(pile, *layer, *participant, *figure)?,
+        Command::CoverAll => cover_all(pile),
+        Command::Cover { participant } => cover(pile, *participant),
         Command::Need {
             participant,
             sum,
             percent,
-        } => Ok(need(pile, *participant, *sum, *percent)),
-        Command::Left { participant } => Ok(left(pile, *participant)),
-        Command::Reserve { participant, lots } => Ok(Ok(reserve(pile, *participant, *lots))),
-        Command::Release { participant, lots } => Ok(Ok(release(pile, *participant, *lots))),
+        } => need(pile, *participant, *sum, *percent)?,
+        Command::Left { participant } => left(pile, *participant)?,
+        Command::Reserve { participant, lots } => reserve(pile, *participant, *lots),
+        Command::Release { participant, lots } => release(pile, *participant, *lots),
         Command::Share {
             rule,
             lots,
             length,
             sums,
-        } => {
-            let answer = shared(heap, *rule, sums.as_slice(), *lots, *length)?;
-            Ok(Ok(answer))
-        }
-    }
+        } => shared(heap, *rule, sums.as_slice(), *lots, *length)?,
+    })
 }

@@ -14,7 +14,7 @@ use script::{Answer, Reason};
 fn is_order(sum: u32, percent: u32) -> bool
     ensures { result ≡ is_order sum percent }
 {
-    1 <= sum && sum <= 1_000_000 && percent <= 100
+    (1..=1_000_000).contains(&sum) && percent <= 100
 }
 
 /// What an order would show and hide; its whole sum is reserved, once.

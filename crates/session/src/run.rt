@@ -1,9 +1,9 @@
 //! A script's run, line by line.
-ghost use Rattle.std.specs.Prelude.{◌≡◌, false, IfOk, MatchResult, OnErr};
+ghost use Rattle.std.specs.Prelude.{◌≡◌, false, IfSome, MatchOption, MatchResult, None};
 ghost use Rattle.clearing.specs.Book.{empty};
 ghost use Rattle.clearing.specs.Makeup.{plain};
 ghost use Rattle.pile.specs.Piles.{pile_makeup};
-ghost use Rattle.session.specs.Replies.{said, said_if, reply_of, in_line};
+ghost use Rattle.session.specs.Replies.{outcome, said_if};
 ghost use Rattle.session.specs.Obeyed.{Answers, after, NeedsMemory};
 ghost use Rattle.script.specs.Parses.{first_word};
 ghost use Rattle.script.specs.Verbs.{verb_word};
@@ -11,14 +11,16 @@ ghost use Rattle.script.specs.declared.command.Verb.TheVariants.{Share};
 ghost use Rattle.session.specs.Lines.{Heard, Spoken, Unread, Answered, passed_over, next_line};
 
 use crate::obeying;
+use crate::obstacle::Obstacle;
 use pile::{BaseKind, Pile};
-use script::{Answer, Command, Fault, Reason, parse};
+use script::{Answer, Command, Reason, parse};
 use std::alloc::{AllocError, Global};
 
 /// The longest line that is read, in bytes.
 const LONGEST: usize = 4096;
 
 /// The present clearing, and how many lines were read.
+// The allocator is no field: `new` takes none, and asking for one would ask more of who opens a session.
 #[derive(Drop)]
 pub struct Session {
     pile: Pile,
@@ -37,17 +39,14 @@ impl Session {
         }
     }
 
-    /// Obeys a command; `Err` inside says why the clearing rules it out.
+    /// Obeys a command; an `Err` says why the clearing rules it out, or that memory ran out.
     ///
     /// Memory can run out only where shares are asked for.
-    pub fn obey(
-        &mut self,
-        heap: Global,
-        command: &Command,
-    ) -> Result<Result<Answer, Reason>, AllocError>
-        ensures answer { IfOk result (λ a. Answers (pile_makeup self.old.pile) command.now (said a)) }
+    // Apart from the pile's own `obey`, which `line` calls while the session counts its lines.
+    pub fn obey(&mut self, heap: Global, command: &Command) -> Result<Answer, Obstacle>
+        ensures answer { IfSome (outcome result) (Answers (pile_makeup self.old.pile) command.now) }
         ensures inside { pile_makeup self.new.pile ≡ after (pile_makeup self.old.pile) command.now }
-        ensures failed { OnErr result (NeedsMemory command.now) }
+        ensures failed { outcome result ≡ None → NeedsMemory command.now }
         ensures lines { self.new.lines ≡ self.old.lines }
     {
         obeying::obey(&mut self.pile, heap, command)
@@ -64,8 +63,15 @@ impl Session {
         if is_passed_over(bytes) {
             return Ok(None);
         }
-        let said = spoken(&mut self.pile, heap, bytes)?;
-        Ok(Some(in_line(self.lines, said)))
+        match spoken(&mut self.pile, heap, bytes) {
+            Ok(answer) => Ok(Some(answer)),
+            Err(Obstacle::RuledOut(reason)) => Ok(Some(Answer::Bad {
+                line: self.lines,
+                reason,
+            })),
+            // The error itself again: no other makes this obstacle.
+            Err(Obstacle::NoMemory) => Err(AllocError),
+        }
     }
 }
 
@@ -73,41 +79,25 @@ impl Session {
 fn is_passed_over(line: &[u8]) -> bool
     ensures { result ≡ passed_over line.now }
 {
-    line.is_empty() || line[0] == b'#'
-}
-
-/// The answer in a line: a reason is told with the line's number.
-fn in_line(line: u64, answer: Result<Answer, Reason>) -> Answer
-    ensures { reply_of result ≡ in_line line (said answer) }
-{
-    match answer {
-        Ok(answer) => answer,
-        Err(reason) => Answer::Bad { line, reason },
-    }
+    matches!(line, [] | [b'#', ..])
 }
 
 /// What is said of a line that is not passed over.
-fn spoken(pile: &mut Pile, heap: Global, line: &[u8]) -> Result<Result<Answer, Reason>, AllocError>
+fn spoken(pile: &mut Pile, heap: Global, line: &[u8]) -> Result<Answer, Obstacle>
     requires { passed_over line.now ≡ false }
-    ensures { MatchResult result (λ a. Spoken (pile_makeup pile.old) line.now (said a) (pile_makeup pile.new)) (λ _. Unread (pile_makeup pile.old) line.now (pile_makeup pile.new)) }
+    ensures { MatchOption (outcome result) (Unread (pile_makeup pile.old) line.now (pile_makeup pile.new)) (λ r. Spoken (pile_makeup pile.old) line.now r (pile_makeup pile.new)) }
 {
     if line.len() > LONGEST {
-        return Ok(Err(Reason::TooLong));
+        return Err(Reason::TooLong.into());
     }
-    match std::str::from_utf8(line) {
-        Ok(text) => heard(pile, heap, text),
-        Err(_) => Ok(Err(Reason::NotText)),
-    }
+    let text = std::str::from_utf8(line).map_err(|_| Reason::NotText)?;
+    heard(pile, heap, text)
 }
 
 /// What is said of a line that is text.
-fn heard(pile: &mut Pile, heap: Global, line: &str) -> Result<Result<Answer, Reason>, AllocError>
-    ensures { MatchResult result (λ a. Heard (pile_makeup pile.old) line.now (said a) (pile_makeup pile.new)) (λ _. (first_word line.now ≡ verb_word Share) × (pile_makeup pile.new ≡ pile_makeup pile.old)) }
+fn heard(pile: &mut Pile, heap: Global, line: &str) -> Result<Answer, Obstacle>
+    ensures { MatchOption (outcome result) ((first_word line.now ≡ verb_word Share) × (pile_makeup pile.new ≡ pile_makeup pile.old)) (λ r. Heard (pile_makeup pile.old) line.now r (pile_makeup pile.new)) }
 {
-    match parse(heap, line) {
-        Ok(command) => obeying::obey(pile, heap, &command),
-        Err(Fault::Unknown) => Ok(Err(Reason::Unknown)),
-        Err(Fault::Usage(verb)) => Ok(Err(Reason::Usage(verb))),
-        Err(Fault::NoMemory) => Err(AllocError),
-    }
+    let command = parse(heap, line)?;
+    obeying::obey(pile, heap, &command)
 }

@@ -9,11 +9,11 @@ pub fn totals<C: Clearing>(clearing: &C) -> (u64, u64)
     ensures free { result.0 ≡ total_below 64 (C.Clearing.book clearing.now).free }
     ensures held { result.1 ≡ total_below 64 (C.Clearing.book clearing.now).held }
 {
-    let mut free = 0;
-    let mut held = 0;
-    for participant in 0..64 {
-        free += clearing.free(participant) as u64;
-        held += clearing.held(participant) as u64;
-    }
+    let free = (0..64)
+        .map(|participant| u64::from(clearing.free(participant)))
+        .sum();
+    let held = (0..64)
+        .map(|participant| u64::from(clearing.held(participant)))
+        .sum();
     (free, held)
 }
