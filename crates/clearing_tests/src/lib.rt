@@ -15,7 +15,7 @@ mod sheets;
 #[cfg(test)]
 use clearing::Refusal;
 #[cfg(test)]
-use pile::SetAnswer;
+use pile::SetError;
 
 /// The number that a setter refuses with, 0 where the figure was set.
 #[cfg(test)]
@@ -28,10 +28,10 @@ fn number(answer: Result<(), Refusal>) -> u32 {
 
 /// The same of a pile, and 1 where it has no such figure.
 #[cfg(test)]
-fn part_number(answer: SetAnswer) -> u32 {
+fn part_number(answer: Result<(), SetError>) -> u32 {
     match answer {
-        SetAnswer::Done => 0,
-        SetAnswer::Refused(refusal) => refusal.number(),
-        SetAnswer::NoSuchPart => 1,
+        Ok(()) => 0,
+        Err(SetError::Refused(refusal)) => refusal.number(),
+        Err(SetError::NoSuchPart) => 1,
     }
 }

@@ -8,8 +8,8 @@ use orders::{
 fn refused(mode: Mode, participant: u32, terms: Terms) -> u32 {
     match Settings::new(mode, 10, 50, 5, 20, 4_096) {
         Ok(settings) => match check_terms(&settings, 34_200, participant, &terms) {
-            Some(refusal) => refusal.number(),
-            None => 0,
+            Ok(()) => 0,
+            Err(refusal) => refusal.number(),
         },
         Err(refusal) => refusal.number(),
     }

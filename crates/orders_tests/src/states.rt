@@ -28,6 +28,6 @@ fn every_state_and_event(rt: HostRuntime) {
         (State::Done, Event::Close, State::Done),
     ];
     for &(state, event, next) in CASES {
-        assert_eq!(rt; next_state(state, event) as u8, next as u8);
+        assert_eq!(rt; next_state(state, event), next);
     }
 }

@@ -12,9 +12,9 @@ fn main(rt: HostRuntime) -> io::Result<()> {
     let mut reader = ScriptReader::new(heap, true)?;
     let mut text = Vec::new(heap);
     for piece in script.as_slice().chunks(4096) {
-        reader.feed(heap, piece, &mut text)?;
+        reader.feed(piece, &mut text)?;
     }
-    reader.finish(heap, &mut text)?;
+    reader.finish(&mut text)?;
     let mut output = rt.stdout();
     output.write_all(text.as_slice())?;
     output.flush()
