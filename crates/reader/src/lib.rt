@@ -101,16 +101,24 @@ impl ScriptReader {
         Ok(())
     }
 
-    /// Takes the next bytes of the script, and adds to `out` what is written for the lines that they end.
-    ///
-    /// Where memory runs out, `out` has what is written for the lines before that one.
-    pub fn feed(&mut self, bytes: &[u8], out: &mut Vec<u8>) -> Result<(), AllocError>
+    /// Takes bytes of the script, one after another.
+    // Apart from `feed`, where the loop is no plainer: a `feed` that hands on other bytes is refused for itself.
+    fn take_each(&mut self, bytes: &[u8], out: &mut Vec<u8>) -> Result<(), AllocError>
         ensures { MatchResult result (λ _. Fed (standing self.old) bytes.now out.old.items out.new.items (standing self.new)) (λ _. Stopped (standing self.old) bytes.now out.old.items out.new.items) }
     {
         for &byte in bytes {
             self.take(byte, out)?;
         }
         Ok(())
+    }
+
+    /// Takes the next bytes of the script, and adds to `out` what is written for the lines that they end.
+    ///
+    /// Where memory runs out, `out` has what is written for the lines before that one.
+    pub fn feed(&mut self, bytes: &[u8], out: &mut Vec<u8>) -> Result<(), AllocError>
+        ensures { MatchResult result (λ _. Fed (standing self.old) bytes.now out.old.items out.new.items (standing self.new)) (λ _. Stopped (standing self.old) bytes.now out.old.items out.new.items) }
+    {
+        self.take_each(bytes, out)
     }
 
     /// The script is at its end: a last line without a newline is answered, if it has any byte.

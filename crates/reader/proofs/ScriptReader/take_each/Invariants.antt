@@ -1,7 +1,7 @@
 use Rattle.std.proofs.Common.{take, vec_items}
 use Rattle.reader.specs.Standings.{standing}
 use Rattle.reader.specs.Transcript.{Fed}
-use Rattle.reader.proofs.ScriptReader.feed.Given as goal
+use Rattle.reader.proofs.ScriptReader.take_each.Given as goal
 
 abbrev pub invariant-loop-byte : goal.invariant-loop-byte
 invariant-loop-byte l =

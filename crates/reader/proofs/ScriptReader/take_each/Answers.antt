@@ -1,7 +1,7 @@
 use Rattle.std.proofs.Common.{vec_items}
 use Rattle.reader.specs.Standings.{standing}
 use Rattle.reader.proofs.Feeding.{fed_none, fed_more}
-use Rattle.reader.proofs.ScriptReader.feed.Goals as goal
+use Rattle.reader.proofs.ScriptReader.take_each.Goals as goal
 
 pub loop-byte-init : goal.loop-byte-init
 loop-byte-init c = fed_none (standing c.args.self.now) c.args.bytes.now (vec_items c.args.out.now)
