@@ -16,6 +16,7 @@ fn main(rt: HostRuntime) -> io::Result<()> {
     let mut text = Vec::new(heap);
     // A loop on input has no end that a proof sees, and nothing here may wait: the count is one that no input reaches.
     for _ in 0..u64::MAX {
+        // A fixed piece with its count: `read` fills what it is given and says how much.
         let mut piece = [0u8; 4096];
         let count = input.read(&mut piece)?;
         if count == 0 {
