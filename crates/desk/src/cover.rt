@@ -1,5 +1,5 @@
 //! What a day asks of its clearing.
-// Apart from `place` and the rest, so that each is refused for any number of lots, 0 too, which no order that is placed has.
+// Two functions, and not the trait's calls at each place: here what is asked is pinned for every number of lots, 0 too, which no placed order has.
 ghost use Rattle.std.specs.Prelude.{◌≡◌, if◌then◌else◌};
 ghost use Rattle.clearing.specs.Book.{can_release, can_reserve, released, reserved};
 ghost use Rattle.clearing.specs.Makeup.{returned, taken};

@@ -102,7 +102,7 @@ impl ScriptReader {
     }
 
     /// Takes bytes of the script, one after another.
-    // Apart from `feed`, where the loop is no plainer: a `feed` that hands on other bytes is refused for itself.
+    // Apart from `feed`, where the loop is no plainer: `feed` says in one line which bytes go on, and this how.
     fn take_each(&mut self, bytes: &[u8], out: &mut Vec<u8>) -> Result<(), AllocError>
         ensures { MatchResult result (λ _. Fed (standing self.old) bytes.now out.old.items out.new.items (standing self.new)) (λ _. Stopped (standing self.old) bytes.now out.old.items out.new.items) }
     {

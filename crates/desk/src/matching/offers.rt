@@ -9,7 +9,7 @@ use crate::standing::meets;
 use orders::{Direction, Order, Rate, row_rate};
 
 /// The better of two rates for an order that enters: the higher for a deposit, the lower for a repo order.
-// A function, and no `max` and `min` at the chain's end: there the step stands alone, and a wrong one is refused for itself.
+// A function, and no `max` and `min` at the chain's end: so the chain is one for both directions.
 fn better(direction: Direction, a: Rate, b: Rate) -> Rate
     ensures { result.hundredths ≡ better direction a.hundredths b.hundredths }
 {
