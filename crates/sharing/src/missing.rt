@@ -21,9 +21,9 @@ impl Request<'_> {
         requires long { length out.old ≡ length self.now.sums.now }
         ensures { AllZip (F.post part_of) self.now.sums.now out.new }
     {
-        out.copy_from_slice(self.sums);
-        for part in out.iter_mut() {
-            *part = part_of(*part);
+        // By an index, in one pass, as in `hand_out`.
+        for (i, part) in out.iter_mut().enumerate() {
+            *part = part_of(self.sums[i]);
         }
     }
 

@@ -60,5 +60,5 @@ pub(crate) fn total(lots: &[u32]) -> u32
 fn is_lawful(sums: &[u32], q: u32) -> bool
     ensures { IsTrue result ↔ Lawful sums.now q }
 {
-    (1..=MAX_SUMS).contains(&sums.len()) && all_visible(sums) && (1..=total(sums)).contains(&q)
+    (1..=MAX_SUMS).contains(&sums.len()) && q > 0 && all_visible(sums) && q <= total(sums)
 }

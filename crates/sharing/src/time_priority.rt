@@ -18,9 +18,9 @@ impl Request<'_> {
         ensures { out.new ≡ time_shares self.now.sums.now self.now.lots }
     {
         let mut left = self.lots;
-        out.copy_from_slice(self.sums);
-        for share in out.iter_mut() {
-            *share = (*share).min(left);
+        // By an index, in one pass: what `iter_mut().zip(..)` writes is not known after the loop.
+        for (i, share) in out.iter_mut().enumerate() {
+            *share = self.sums[i].min(left);
             left -= *share;
         }
     }
