@@ -1,8 +1,7 @@
 -- The close, order by order.
 use Rattle.std.proofs.Common.{◌≡◌, ℕ, ◌+◌, ◌-◌, ◌<◌, ◌≤◌, List, ◌++◌, map, length, take, drop, set, sym, refl, ap, ◌∙◌, arith}
-use Rattle.std.specs.List.{refill}
 use Rattle.std.proofs.lemmas.List.Edits.{map_over_more}
-use Rattle.std.proofs.lemmas.List.{at_drop_more, at_drop_all, take_all, drop_all, append-nil, get_or_default, get_or-append_right, take_at, length-append, length-map, length-take, length-drop, length-take-le, drop_more}
+use Rattle.std.proofs.lemmas.List.{at_drop_more, at_drop_all, take_all, drop_all, append-nil, get_or_default, get_or-append_right, length-append, length-map, length-take, length-drop, length-take-le, drop_more}
 use Rattle.clearing.specs.Book.{Book, released}
 use Rattle.clearing.specs.Makeup.{Makeup}
 use Rattle.orders.specs.declared.kinds.Order.{Order}
@@ -75,15 +74,11 @@ orders_ended_all orders b m i now cover inside all ended = (
   orders_ended_inside orders b m i now cover inside all ended,
 )
 
--- a table of orders that are ended, one for each
-pub refilled : (orders ended : List Order) → ended ≡ map (taken_out Close) orders → refill (length orders) orders ended ≡ map (taken_out Close) orders
-refilled orders ended is = take_at ended (drop (length ended) orders) (length orders) (ap length is ∙ length-map orders (taken_out Close)) ∙ is
-
 -- a state whose orders are ended
 pub closed_world : (s : DayState) (ended : List Order) → ended ≡ map (taken_out Close) (day_of s).orders → (before cover : Book) → cover ≡ released_all before (day_of s).orders → (register : List Row)
     → closing (world_of s register before)
     ≡ record {
-      day = record { settings = s.settings; clock = s.clock; orders = ended; queue = s.queue.items; used = s.used };
+      day = record { settings = s.settings; clock = s.clock; orders = ended; queue = take s.count s.queue; used = s.used };
       register = register;
       cover = cover;
     }

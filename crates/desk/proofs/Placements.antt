@@ -1,5 +1,6 @@
 -- Place, refused or accepted.
-use Rattle.std.proofs.Common.{◌≡◌, ℕ, ◌+◌, ◌-◌, ◌<◌, ◌≤◌, Bool, true, false, cond, List, [], ◌∷◌, length, Some, None, sym, refl, ap, ◌∙◌, arith}
+use Rattle.std.proofs.Common.{◌≡◌, ℕ, ◌+◌, ◌-◌, ◌<◌, ◌≤◌, Bool, true, false, cond, List, [], ◌∷◌, length, take, set, Some, None, sym, refl, ap, ◌∙◌, arith}
+use Rattle.std.proofs.lemmas.List.{length-take-le, take_more_set}
 use Rattle.std.proofs.lemmas.List.Sums.{sum_by-cons}
 use Rattle.std.proofs.lemmas.Bool.{cond-false}
 use Rattle.clearing.specs.Book.{Book, can_reserve, can_release, reserved, released}
@@ -29,6 +30,13 @@ use Rattle.desk.specs.Kept.{Sound}
 use Rattle.desk.specs.Worlds.{world_of}
 use Rattle.desk.proofs.Tables.{place_covered, place_refused}
 use Rattle.desk.proofs.Withdrawals.{judged_none, judged_some}
+
+-- one more order in the tables
+pub day_pushed : (d : Day) (orders : List Order) (queue : List ℕ) (count : ℕ) (o : Order) → count < length orders → count < length queue
+    → record { settings = d.settings; clock = d.clock; orders = take (count + 1) (set orders count o); queue = take (count + 1) (set queue count count); used = d.used }
+    ≡ day_with (record { settings = d.settings; clock = d.clock; orders = take count orders; queue = take count queue; used = d.used }) o
+day_pushed d orders queue count o inside within =
+    rw (take_more_set orders count o inside, take_more_set queue count count within, length-take-le count orders (omega arith)) refl
 
 -- every order is registered in one of the two directions
 one_direction : (d : Direction) → cond (same_direction Deposit d) 1 0 + cond (same_direction Repo d) 1 0 ≡ 1

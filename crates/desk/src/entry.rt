@@ -10,7 +10,6 @@ ghost use Rattle.model.specs.Rounds.{meeting};
 ghost use Rattle.model.specs.States.{day_of};
 
 use crate::matching::{Entering, Rows};
-use arrayvec::ArrayVec;
 use model::{DayState, MOST_ORDERS};
 use orders::{Order, Row, Terms};
 use sharing::SharingRule;
@@ -22,23 +21,25 @@ struct Met {
     made: usize,
 }
 
-/// Lets an order meet the queue of some orders. Its rows go to the front of `rows`.
+/// Lets an order meet the queue of the first `count` orders. Its rows go to the front of `rows`.
 // Apart from `enter`: of rows that are made and let go in one function a proof knows the register's length alone.
 fn meet_queue<R: SharingRule>(
     rule: &R,
     entering: &Entering,
-    orders: &mut ArrayVec<Order, MOST_ORDERS>,
-    queue: &mut ArrayVec<u8, MOST_ORDERS>,
+    orders: &mut [Order; MOST_ORDERS],
+    queue: &mut [u8; MOST_ORDERS],
+    count: usize,
     rows: &mut [Row],
 ) -> Met
-    requires { EntryReady entering.now.terms (market_of orders.old.items queue.old.items []) rows.old }
-    ensures left { result.left ≡ (meeting (R.SharingRule.shares rule.now) entering.now.settings entering.now.terms entering.now.number (market_of orders.old.items queue.old.items [])).left }
-    ensures market { Stands (meeting (R.SharingRule.shares rule.now) entering.now.settings entering.now.terms entering.now.number (market_of orders.old.items queue.old.items [])).market orders.new.items queue.new.items rows.old rows.new result.made }
-    ensures same { (length orders.new.items ≡ length orders.old.items) × (length queue.new.items ≡ length queue.old.items) }
+    requires few { count ≤ 128 }
+    requires ready { EntryReady entering.now.terms (market_of (take count orders.old) (take count queue.old) []) rows.old }
+    ensures left { result.left ≡ (meeting (R.SharingRule.shares rule.now) entering.now.settings entering.now.terms entering.now.number (market_of (take count orders.old) (take count queue.old) [])).left }
+    ensures market { Stands (meeting (R.SharingRule.shares rule.now) entering.now.settings entering.now.terms entering.now.number (market_of (take count orders.old) (take count queue.old) [])).market (take count orders.new) (take count queue.new) rows.old rows.new result.made }
+    ensures same { (length orders.new ≡ length orders.old) × (length queue.new ≡ length queue.old) }
     ensures within { (result.left ≤ entering.now.terms.sum) × (result.made ≤ length rows.old) }
 {
     let mut rows = Rows { all: rows, made: 0 };
-    let left = entering.meet(rule, orders.as_mut_slice(), queue.as_mut_slice(), &mut rows);
+    let left = entering.meet(rule, &mut orders[..count], &mut queue[..count], &mut rows);
     Met {
         left,
         made: rows.made,
@@ -73,6 +74,7 @@ pub(crate) fn enter<R: SharingRule>(
         &entering,
         &mut state.orders,
         &mut state.queue,
+        state.count,
         &mut register[state.used..],
     );
     state.used += met.made;

@@ -15,7 +15,7 @@ pub(crate) fn put_order(state: &mut DayState, place: usize, order: Order)
     requires { place < length (day_of state.old).orders }
     ensures { day_of state.new ≡ with_order_at (day_of state.old) place order }
 {
-    state.orders.as_mut_slice()[place] = order;
+    state.orders[place] = order;
 }
 
 impl Desk {
@@ -24,7 +24,7 @@ impl Desk {
         ensures value { result.now ≡ (day_of self.now.state).orders }
         ensures kept { KeptOrders result.now }
     {
-        self.state.orders.as_slice()
+        &self.state.orders[..self.state.count]
     }
 
     /// The registered order at a place.

@@ -22,13 +22,13 @@ use sharing::SharingRule;
 
 /// Registers one more order, last in the queue.
 fn push_order(state: &mut DayState, order: Order)
-    requires few { length (day_of state.old).orders < 128 }
-    requires queued { length (day_of state.old).queue < 128 }
+    requires { length (day_of state.old).orders < 128 }
     ensures { day_of state.new ≡ day_with (day_of state.old) order }
 {
     // `as`, and no `try_from`, which could not fail: there is room for one more of 128.
-    state.queue.push(state.orders.len() as u8);
-    state.orders.push(order);
+    state.queue[state.count] = state.count as u8;
+    state.orders[state.count] = order;
+    state.count += 1;
 }
 
 /// An order that is to be placed: its number, its owner, and what it asks.

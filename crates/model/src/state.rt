@@ -1,36 +1,41 @@
 //! The state of a day, in tables of fixed size.
-ghost use Rattle.std.specs.Prelude.{◌≡◌};
-ghost use Rattle.model.specs.Days.{opened};
-ghost use Rattle.model.specs.States.{day_of};
+ghost use Rattle.std.specs.Prelude.{◌≤◌};
 
-use arrayvec::ArrayVec;
 use orders::{OPENING_TIME, Order, Settings};
 
 /// The most orders of a day: 64 of each direction.
 pub const MOST_ORDERS: usize = 128;
 
-/// A day: its orders, with number k + 1 at place k, and the queue of their places. No part of it lies on the heap.
+/// A day: its first `count` orders, with number k + 1 at place k, and the queue of their places. No part of it lies on the heap.
 // Places and no orders in the queue: an order keeps its place for good, since its number is the place's.
-// No `Copy`: a vector of a fixed capacity has none, and a day is one value.
-#[derive(Clone, Drop)]
+// Tables with their count, and no `ArrayVec`: a day can be copied, and such a vector cannot.
+#[derive(Clone, Copy)]
 pub struct DayState {
     pub settings: Settings,
     pub clock: u32,
-    pub orders: ArrayVec<Order, MOST_ORDERS>,
-    pub queue: ArrayVec<u8, MOST_ORDERS>,
+    pub orders: [Order; MOST_ORDERS],
+    pub queue: [u8; MOST_ORDERS],
+    pub count: usize,
     pub used: usize,
+    ghost few: { count ≤ 128 },
 }
 
 impl DayState {
+    ghost use Rattle.std.specs.Prelude.{◌≡◌};
+    ghost use Rattle.model.specs.Days.{opened};
+    ghost use Rattle.model.specs.States.{day_of};
+
     /// A newly opened day.
     pub fn open(settings: Settings) -> DayState
-        ensures { day_of result ≡ opened settings }
+        ensures day { day_of result ≡ opened settings }
+        ensures count { result.count ≡ 0 }
     {
         DayState {
             settings,
             clock: OPENING_TIME,
-            orders: ArrayVec::new(),
-            queue: ArrayVec::new(),
+            orders: [Order::default(); MOST_ORDERS],
+            queue: [0; MOST_ORDERS],
+            count: 0,
             used: 0,
         }
     }

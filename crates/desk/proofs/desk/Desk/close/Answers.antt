@@ -5,7 +5,6 @@ use Rattle.model.specs.Close.{closing}
 use Rattle.model.specs.Days.{World}
 use Rattle.model.specs.States.{day_of}
 use Rattle.desk.specs.Worlds.{world_of}
-use Rattle.desk.proofs.Closings.{closed_world, refilled}
 use Rattle.desk.proofs.Desks.{keeps}
 use Rattle.desk.proofs.desk.Desk.close.Goals as goal
 
@@ -13,9 +12,5 @@ pub invariant_of-self : goal.invariant_of-self
 invariant_of-self g c =
     let s = c.args.self.now in
     let w = world_of s.state [] (g.C.Clearing.book c.args.clearing.now) in
-    let kept = keeps _ (closing w).day (closing_lawful w (lawful_out (day_of s.state) s.lawful))
-    (ap (λ (x : World). x.day) (closed_world s.state _ (refilled _ _ (rw c.as_mut_slice.ensures.value at c.end_each.ensures.orders)) (g.C.Clearing.book c.args.clearing.now) (g.C.Clearing.book c.end_each.new.clearing) (rw c.as_mut_slice.ensures.value at c.end_each.ensures.cover) [])) in
+    let kept = keeps (day_of c.close_orders.new.state) (closing w).day (closing_lawful w (lawful_out (day_of s.state) s.lawful)) (ap (λ (x : World). x.day) (c.close_orders.ensures.world [])) in
     record { lawful = kept }
-
-pub returns-clause-world : goal.returns-clause-world
-returns-clause-world g c = closed_world c.args.self.now.state _ (refilled _ _ (rw c.as_mut_slice.ensures.value at c.end_each.ensures.orders)) (g.C.Clearing.book c.args.clearing.now) (g.C.Clearing.book c.end_each.new.clearing) (rw c.as_mut_slice.ensures.value at c.end_each.ensures.cover)

@@ -1,12 +1,12 @@
-use Rattle.std.proofs.Common.{true, false, refl, ap, arith}
+use Rattle.std.proofs.Common.{true, false, refl, ap}
 use Rattle.std.proofs.lemmas.Result.{err_from_is_err_and}
 use Rattle.model.proofs.LawfulDays.{placing_lawful}
 use Rattle.model.proofs.Reached.{lawful_out}
 use Rattle.model.specs.Days.{Outcome}
-use Rattle.model.specs.Place.{market_of, placing}
+use Rattle.model.specs.Place.{placing}
 use Rattle.model.specs.States.{day_of}
 use Rattle.desk.specs.Worlds.{world_of}
-use Rattle.desk.proofs.Desks.{keeps, queue_long}
+use Rattle.desk.proofs.Desks.{keeps}
 use Rattle.desk.proofs.Placements.{accepted_passed, cover_keeps, cover_refuses, meets_inside, meets_placed, place_left, rows_left, tests_keep, tests_refuse, waits_inside, waits_is, waits_placed}
 use Rattle.desk.proofs.desk.Desk.place.Goals as goal
 
@@ -39,7 +39,7 @@ push_order-requires g c =
     let is = accepted_passed rule c.args.participant c.args.terms.now w c.in_ok-judge_place.ensures c.if-not-reserve_lots.ensures.answer in
     let sound = lawful_out (day_of s.state) s.lawful in
     let few = place_left s.state c.args.register.now (g.C.Clearing.book c.args.clearing.now) c.args.participant c.args.terms.now sound is in
-    record { few = few; queued = omega (arith, few, queue_long (market_of (day_of s.state)) sound.market) }
+    few
 
 pub invariant_of-self : goal.invariant_of-self
 invariant_of-self g c =
