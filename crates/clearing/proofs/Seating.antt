@@ -2,19 +2,19 @@
 use Rattle.std.proofs.Common.{◌≡◌, ℕ, ◌+◌, ◌-◌, ◌≤◌, Bool, true, false, cond, eqb, ltb, get_or, replicate, refl, ap, sym, ◌∙◌, arith, rules}
 use Rattle.std.proofs.lemmas.Bool.{ltb-true, eqb-true}
 use Rattle.std.proofs.lemmas.List.{get_or-replicate}
-use Rattle.clearing.specs.Accounts.{book_of}
+use Rattle.clearing.specs.Accounts.{alike, book_of}
 use Rattle.clearing.specs.Book.{put, with_free, can_reserve, reserved, can_release, released}
 use Rattle.clearing.specs.Seats.{seat, seated}
 use Rattle.clearing.proofs.Choices.{ap_cond}
 
 module _ {X : Type 0} where
-  same_in : (n : ℕ) → n ≡ 64 → (x : X) (p : ℕ) (b : Bool) → ltb p 64 ≡ b → cond b (get_or (replicate n x) p x) x ≡ x
-  same_in n all x p true e = get_or-replicate n p x x (omega (arith, ltb-true p 64 e))
-  same_in n all x p false e = refl
+  same_in : (n : ℕ) → n ≡ 64 → (none x : X) (p : ℕ) (b : Bool) → ltb p 64 ≡ b → cond b (get_or (replicate n x) p none) none ≡ cond b x none
+  same_in n all none x p true e = get_or-replicate n p x none (omega (arith, ltb-true p 64 e))
+  same_in n all none x p false e = refl
 
-  -- x in every seat, and for strangers too
-  pub seat-replicate : (n : ℕ) → n ≡ 64 → (x : X) → seat x (replicate n x) ≡ (λ p. x)
-  seat-replicate n all x = λ i p. same_in n all x p (ltb p 64) refl i
+  -- x in every seat
+  pub seat-replicate : (n : ℕ) → n ≡ 64 → (none x : X) → seat none (replicate n x) ≡ alike none x
+  seat-replicate n all none x = λ i p. same_in n all none x p (ltb p 64) refl i
 
   same_figure : (figure : X → ℕ) (f : ℕ → X) (p q n : ℕ) → figure (f p) ≡ n → (b : Bool) → eqb q p ≡ b → cond b n (figure (f q)) ≡ figure (f q)
   same_figure figure f p q n e true is = sym e ∙ ap (λ k. figure (f k)) (sym (eqb-true q p is))

@@ -1,5 +1,5 @@
 -- An account of each participant, and the book that the accounts show.
-use Rattle.std.specs.Prelude.{ℕ, Bool, ◌&&◌, ◌==◌, nat_lt}
+use Rattle.std.specs.Prelude.{ℕ, Bool, cond, ◌&&◌, ◌==◌, nat_lt}
 use Rattle.clearing.specs.Book.{Book}
 use Rattle.clearing.specs.Seats.{seat}
 use Rattle.clearing.specs.declared.accounts.Accounts.{Accounts}
@@ -8,6 +8,10 @@ module _ {A : Type 0} where
   -- each participant's account; none above participant 63
   abbrev pub account_of : A → Accounts A → ℕ → A
   account_of none accounts = seat none accounts.of
+
+  -- the same account for participants 0 to 63
+  abbrev pub alike : A → A → ℕ → A
+  alike none account p = cond (nat_lt p 64) account none
 
   -- what is free and what is held in each account
   abbrev pub book_of : (A → ℕ) → (A → ℕ) → (ℕ → A) → Book

@@ -1,6 +1,6 @@
 //! One account for each participant from 0 to 63.
 ghost use Rattle.std.specs.Prelude.{◌≡◌, ℕ, ◌+◌, ◌-◌, ◌≤◌, if◌then◌else◌};
-ghost use Rattle.clearing.specs.Accounts.{account_of, book_of, replaceable};
+ghost use Rattle.clearing.specs.Accounts.{account_of, alike, book_of, replaceable};
 ghost use Rattle.clearing.specs.Book.{can_reserve, reserved, can_release, released};
 ghost use Rattle.clearing.specs.Refused.{refused_with, refused_unless};
 ghost use Rattle.clearing.specs.Seats.{seated};
@@ -61,13 +61,11 @@ pub(crate) struct Accounts<A> {
 }
 
 impl<A: Account> Accounts<A> {
-    /// An empty account for everyone.
-    pub(crate) fn new() -> Accounts<A>
-        ensures { account_of A.none result ≡ (λ _. A.none) }
+    /// The same account for everyone.
+    pub(crate) fn each(account: A) -> Accounts<A>
+        ensures { account_of A.none result ≡ alike A.none account }
     {
-        Accounts {
-            of: [A::empty(); 64],
-        }
+        Accounts { of: [account; 64] }
     }
 
     /// The participant's account; an empty one above participant 63.

@@ -4,11 +4,12 @@ ghost use Rattle.clearing.specs.Book.{can_reserve, reserved, can_release, releas
 ghost use Rattle.clearing.specs.Makeup.{pots};
 ghost use Rattle.clearing.specs.Pots.{empty_pots, joint, drawn, refilled, pots_settable, pots_set};
 ghost use Rattle.clearing.specs.Refused.{refused_with, refused_unless};
-ghost use Rattle.clearing.specs.TwoPots.{pots_of};
+ghost use Rattle.clearing.specs.TwoPots.{pots_of, uniform_pots};
 ghost use Rattle.std.proofs.Common.{rules};
 
 use crate::accounts::{Account, Accounts};
 use crate::cover::{Clearing, Refusal};
+use crate::line::Line;
 use crate::purse::Purse;
 
 /// A pot of money and a pot of securities for each participant; free is what both have left.
@@ -23,9 +24,11 @@ impl TwoPots {
     pub fn new() -> TwoPots
         ensures { pots_of result ≡ empty_pots }
     {
-        TwoPots {
-            purses: Accounts::new(),
-        }
+        let empty = Line { limit: 0, held: 0 };
+        TwoPots::with_purse(Purse {
+            money: empty,
+            securities: empty,
+        })
     }
 
     /// What the participant's money pot has left.
@@ -50,6 +53,16 @@ impl TwoPots {
     {
         self.purses
             .open(participant, Purse::new(money, securities)?)
+    }
+
+    /// The same purse for every participant.
+    // Apart from `new`, whose own text has the figures that it opens with.
+    fn with_purse(purse: Purse) -> TwoPots
+        ensures { pots_of result ≡ uniform_pots purse }
+    {
+        TwoPots {
+            purses: Accounts::each(purse),
+        }
     }
 }
 

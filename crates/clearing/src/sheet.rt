@@ -3,7 +3,7 @@ ghost use Rattle.std.specs.Prelude.{◌≡◌};
 ghost use Rattle.clearing.specs.Book.{empty, total, settable, limited};
 ghost use Rattle.clearing.specs.Refused.{refused_with, refused_unless};
 ghost use Rattle.clearing.specs.Makeup.{plain};
-ghost use Rattle.clearing.specs.Sheet.{sheet_book};
+ghost use Rattle.clearing.specs.Sheet.{sheet_book, uniform};
 ghost use Rattle.std.proofs.Common.{rules};
 
 use crate::accounts::Accounts;
@@ -22,9 +22,7 @@ impl LimitSheet {
     pub fn new() -> LimitSheet
         ensures { sheet_book result ≡ empty }
     {
-        LimitSheet {
-            lines: Accounts::new(),
-        }
+        LimitSheet::with_line(Line { limit: 0, held: 0 })
     }
 
     /// The participant's opening limit.
@@ -40,6 +38,16 @@ impl LimitSheet {
         ensures after { sheet_book self.new ≡ limited (sheet_book self.old) participant limit }
     {
         self.lines.open(participant, Line::new(limit)?)
+    }
+
+    /// The same line for every participant.
+    // Apart from `new`, whose own text has the figures that it opens with.
+    fn with_line(line: Line) -> LimitSheet
+        ensures { sheet_book result ≡ uniform line }
+    {
+        LimitSheet {
+            lines: Accounts::each(line),
+        }
     }
 }
 

@@ -1,6 +1,0 @@
-use Rattle.std.proofs.Common.{refl}
-use Rattle.clearing.proofs.Seating.{seat-replicate}
-use Rattle.clearing.proofs.accounts.Accounts.new.Goals as goal
-
-pub returns : goal.returns
-returns g c = rw c.empty.ensures (seat-replicate 64 refl g.A.Account.none)
