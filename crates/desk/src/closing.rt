@@ -1,5 +1,5 @@
 //! The close of a day.
-ghost use Rattle.std.specs.Prelude.{◌≡◌, ◌≤◌, List, map, take};
+ghost use Rattle.std.specs.Prelude.{◌≡◌, ◌≤◌, List, length, map};
 ghost use Rattle.clearing.specs.Book.{released};
 ghost use Rattle.desk.specs.Inside.{close_inside, ended_inside};
 ghost use Rattle.desk.specs.Kept.{KeptOrders};
@@ -15,7 +15,7 @@ ghost use Rattle.orders.specs.declared.lifecycle.Event.TheVariants.{Close};
 use crate::desk::Desk;
 use crate::withdrawal::take_out;
 use clearing::Clearing;
-use model::{DayState, MOST_ORDERS};
+use model::DayState;
 use orders::{Event, Order, State};
 
 /// Ends an order, and releases its lots. A done order is left as it is.
@@ -43,25 +43,18 @@ fn end_each<C: Clearing>(orders: &mut [Order], clearing: &mut C)
     }
 }
 
-/// Ends the first `count` orders of a table, one after another, and releases their lots.
-fn end_first<C: Clearing>(orders: &mut [Order; MOST_ORDERS], count: usize, clearing: &mut C)
-    requires few { count ≤ 128 }
-    requires kept { KeptOrders (take count orders.old) }
-    ensures orders { take count orders.new ≡ map (taken_out Close) (take count orders.old) }
-    ensures cover { C.Clearing.book clearing.new ≡ released_all (C.Clearing.book clearing.old) (take count orders.old) }
-    ensures inside { C.Clearing.makeup clearing.new ≡ close_inside (take count orders.old) (C.Clearing.makeup clearing.old) }
-{
-    end_each(&mut orders[..count], clearing);
-}
-
 /// Ends the orders of a day that are not done, by rising number, and releases their lots.
-// Apart from `Desk::close`: the state's table can be lent from the state, and not from the desk that it lies in.
+// Apart from `Desk::close`: a part of the state's table can be lent from the state, and not from the desk that it lies in.
 fn close_orders<C: Clearing>(state: &mut DayState, clearing: &mut C)
-    requires { KeptOrders (day_of state.old).orders }
+    requires few { state.old.count ≤ 128 }
+    requires long { length (day_of state.old).orders ≡ state.old.count }
+    requires kept { KeptOrders (day_of state.old).orders }
     ensures world { (register : List Row) → closing (world_of state.old register (C.Clearing.book clearing.old)) ≡ world_of state.new register (C.Clearing.book clearing.new) }
     ensures inside { C.Clearing.makeup clearing.new ≡ close_inside (day_of state.old).orders (C.Clearing.makeup clearing.old) }
+    ensures count { state.new.count ≡ state.old.count }
+    ensures orders { length (day_of state.new).orders ≡ length (day_of state.old).orders }
 {
-    end_first(&mut state.orders, state.count, clearing);
+    end_each(&mut state.orders[..state.count], clearing);
 }
 
 impl Desk {

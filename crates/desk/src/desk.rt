@@ -1,5 +1,5 @@
 //! A day's desk: its state, kept lawful by every call.
-ghost use Rattle.std.specs.Prelude.{◌≡◌};
+ghost use Rattle.std.specs.Prelude.{◌≡◌, ◌≤◌, length};
 ghost use Rattle.model.specs.Days.{opened};
 ghost use Rattle.model.specs.Sound.{LawfulDay};
 ghost use Rattle.model.specs.States.{day_of};
@@ -11,6 +11,8 @@ use orders::Settings;
 #[derive(Drop)]
 pub struct Desk {
     pub(crate) state: DayState,
+    ghost few: { state.count ≤ 128 },
+    ghost long: { length (day_of state).orders ≡ state.count },
     ghost lawful: { ∥ LawfulDay (day_of state) ∥₁ },
 }
 

@@ -54,11 +54,13 @@ pub(crate) fn enter<R: SharingRule>(
     terms: &Terms,
     number: u32,
 ) -> u32
+    requires few { state.old.count ≤ 128 }
     requires sound { Sound state.old }
     requires most { terms.now.sum ≤ 1000000 }
     requires room { state.old.used + opposite terms.now.direction (day_of state.old).orders ≤ length register.old }
     ensures left { result ≡ (meeting_in (R.SharingRule.shares rule.now) (day_of state.old) terms.now number).left }
     ensures day { day_of state.new ≡ day_met (day_of state.old) (meeting_in (R.SharingRule.shares rule.now) (day_of state.old) terms.now number) }
+    ensures count { state.new.count ≡ state.old.count }
     ensures orders { length (day_of state.new).orders ≡ length (day_of state.old).orders }
     ensures queue { length (day_of state.new).queue ≡ length (day_of state.old).queue }
     ensures register { register.new ≡ written register.old state.old.used (meeting_in (R.SharingRule.shares rule.now) (day_of state.old) terms.now number).market.rows }

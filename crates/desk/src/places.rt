@@ -1,5 +1,5 @@
 //! Orders by their places in a desk.
-ghost use Rattle.std.specs.Prelude.{◌≡◌, ◌<◌, length};
+ghost use Rattle.std.specs.Prelude.{◌≡◌, ◌<◌, ◌≤◌, length};
 ghost use Rattle.desk.specs.Kept.{KeptOrders};
 ghost use Rattle.desk.specs.Worlds.{order_of};
 ghost use Rattle.model.specs.Sound.{SoundOrder};
@@ -12,8 +12,11 @@ use orders::Order;
 
 /// Puts another order at a place.
 pub(crate) fn put_order(state: &mut DayState, place: usize, order: Order)
-    requires { place < length (day_of state.old).orders }
-    ensures { day_of state.new ≡ with_order_at (day_of state.old) place order }
+    requires few { state.old.count ≤ 128 }
+    requires stands { place < length (day_of state.old).orders }
+    ensures day { day_of state.new ≡ with_order_at (day_of state.old) place order }
+    ensures count { state.new.count ≡ state.old.count }
+    ensures orders { length (day_of state.new).orders ≡ length (day_of state.old).orders }
 {
     state.orders[place] = order;
 }

@@ -22,8 +22,10 @@ use sharing::SharingRule;
 
 /// Registers one more order, last in the queue.
 fn push_order(state: &mut DayState, order: Order)
-    requires { length (day_of state.old).orders < 128 }
-    ensures { day_of state.new ≡ day_with (day_of state.old) order }
+    requires { state.old.count < 128 }
+    ensures day { day_of state.new ≡ day_with (day_of state.old) order }
+    ensures few { state.new.count ≤ 128 }
+    ensures long { length (day_of state.new).orders ≡ state.new.count }
 {
     // `as`, and no `try_from`, which could not fail: there is room for one more of 128.
     state.queue[state.count] = state.count as u8;
@@ -109,11 +111,13 @@ fn place_meeting<R: SharingRule>(
     newcomer: &Newcomer,
 ) -> u32
     requires sound { Sound state.old }
-    requires few { length (day_of state.old).orders < 128 }
+    requires few { state.old.count < 128 }
     requires most { newcomer.now.terms.sum ≤ 1000000 }
     requires room { state.old.used + opposite newcomer.now.terms.direction (day_of state.old).orders ≤ length register.old }
     ensures left { result ≡ (meeting_in (R.SharingRule.shares rule.now) (day_of state.old) newcomer.now.terms newcomer.now.number).left }
     ensures day { day_of state.new ≡ day_with (day_met (day_of state.old) (meeting_in (R.SharingRule.shares rule.now) (day_of state.old) newcomer.now.terms newcomer.now.number)) (entered newcomer.now.number newcomer.now.owner newcomer.now.terms result) }
+    ensures few { state.new.count ≤ 128 }
+    ensures long { length (day_of state.new).orders ≡ state.new.count }
     ensures register { register.new ≡ written register.old state.old.used (meeting_in (R.SharingRule.shares rule.now) (day_of state.old) newcomer.now.terms newcomer.now.number).market.rows }
     ensures within { result ≤ newcomer.now.terms.sum }
 {

@@ -1,5 +1,7 @@
 //! The state of a day, in tables of fixed size.
-ghost use Rattle.std.specs.Prelude.{◌≤◌};
+ghost use Rattle.std.specs.Prelude.{◌≡◌};
+ghost use Rattle.model.specs.Days.{opened};
+ghost use Rattle.model.specs.States.{day_of};
 
 use orders::{OPENING_TIME, Order, Settings};
 
@@ -17,14 +19,9 @@ pub struct DayState {
     pub queue: [u8; MOST_ORDERS],
     pub count: usize,
     pub used: usize,
-    ghost few: { count ≤ 128 },
 }
 
 impl DayState {
-    ghost use Rattle.std.specs.Prelude.{◌≡◌};
-    ghost use Rattle.model.specs.Days.{opened};
-    ghost use Rattle.model.specs.States.{day_of};
-
     /// A newly opened day.
     pub fn open(settings: Settings) -> DayState
         ensures day { day_of result ≡ opened settings }

@@ -20,9 +20,11 @@ invariant_of-self g c =
     let rule = g.R.SharingRule.shares c.args.rule.now in
     let fails = late_test s.state c.args.place c.order_at-order.result true c.order_at-order.ensures.value c.if-volume_fails.ensures in
     let is = failed_world c.args.place s.state c.args.register.now (g.C.Clearing.book c.args.clearing.now) c.order_at-order.result c.take_out.new.order (day_of c.put_order.new.state) (g.C.Clearing.book c.take_out.new.clearing)
-    c.order_at-order.ensures.value c.take_out.ensures.order c.take_out.ensures.cover c.put_order.ensures
+    c.order_at-order.ensures.value c.take_out.ensures.order c.take_out.ensures.cover c.put_order.ensures.day
     ∙ ap (λ (a : Activated). a.world) (fails_activated rule c.args.place w fails) in
     record {
+      few = omega (arith, c.put_order.ensures.count, s.few);
+      long = omega (arith, c.put_order.ensures.count, c.put_order.ensures.orders, s.long);
       lawful = activated_keeps rule (g.met.R.SharingRule.divides c.args.rule.now) s.state c.args.register.now (g.C.Clearing.book c.args.clearing.now) c.args.place (lawful_out (day_of s.state) s.lawful) c.requires.stands c.requires.waits c.requires.length c.requires.room
           (day_of c.put_order.new.state) (ap (λ (x : World). x.day) is);
     }
@@ -38,7 +40,7 @@ returns-then-volume_fails g c =
       lots = failed_lots c.args.place w ∙ ap (λ (a : Activated). a.lots) goes;
       world =
           failed_world c.args.place s.state c.args.register.now (g.C.Clearing.book c.args.clearing.now) c.order_at-order.result c.take_out.new.order (day_of c.put_order.new.state) (g.C.Clearing.book c.take_out.new.clearing)
-          c.order_at-order.ensures.value c.take_out.ensures.order c.take_out.ensures.cover c.put_order.ensures
+          c.order_at-order.ensures.value c.take_out.ensures.order c.take_out.ensures.cover c.put_order.ensures.day
           ∙ ap (λ (a : Activated). a.world) goes;
       inside =
           c.take_out.ensures.inside
@@ -53,6 +55,7 @@ enter-left-requires g c =
     let s = c.args.self.now in
     let sound = lawful_out (day_of s.state) s.lawful in
     record {
+      few = s.few;
       sound = sound;
       most = c.order_at-order.ensures.sound.most;
       room = late_room (day_of s.state) c.args.place _ c.order_at-order.result sound c.requires.stands c.requires.waits c.order_at-order.ensures.value c.requires.room;
@@ -66,10 +69,12 @@ invariant_of-self-2 g c =
     let is = c.order_at-order.ensures.value in
     let passes = late_test s.state c.args.place c.order_at-order.result false is c.if-volume_fails.ensures in
     let same = late_meeting rule w.day c.args.place c.order_at-order.result is in
-    let met = met_world c.args.place w _ c.order_at-order.result c.entered_late.result c.enter-left.result c.enter-left.new.state (day_of c.put_order-2.new.state) c.enter-left.new.register _ c.put_order-2.ensures is c.enter-left.ensures.left c.enter-left.ensures.day c.entered_late.ensures c.enter-left.ensures.register refl
+    let met = met_world c.args.place w _ c.order_at-order.result c.entered_late.result c.enter-left.result c.enter-left.new.state (day_of c.put_order-2.new.state) c.enter-left.new.register _ c.put_order-2.ensures.day is c.enter-left.ensures.left c.enter-left.ensures.day c.entered_late.ensures c.enter-left.ensures.register refl
     ∙ ap (λ (met : Meeting). (activated_meeting c.args.place w met).world) same
     ∙ ap (λ (a : Activated). a.world) (passes_activated rule c.args.place w passes) in
     record {
+      few = omega (arith, c.put_order-2.ensures.count, c.enter-left.ensures.count, s.few);
+      long = omega (arith, c.put_order-2.ensures.count, c.put_order-2.ensures.orders, c.enter-left.ensures.count, c.enter-left.ensures.orders, s.long);
       lawful = activated_keeps rule (g.met.R.SharingRule.divides c.args.rule.now) s.state c.args.register.now (g.C.Clearing.book c.args.clearing.now) c.args.place (lawful_out (day_of s.state) s.lawful) c.requires.stands c.requires.waits c.requires.length c.requires.room
           (day_of c.put_order-2.new.state) (ap (λ (x : World). x.day) met);
     }
@@ -88,7 +93,7 @@ returns g c =
           ∙ ap (λ (met : Meeting). (activated_meeting c.args.place w met).lots) same ∙ ap (λ (a : Activated). a.lots) goes;
       world =
           met_world c.args.place w _ c.order_at-order.result c.entered_late.result c.enter-left.result c.enter-left.new.state (day_of c.put_order-2.new.state) c.enter-left.new.register (g.C.Clearing.book c.release_lots.new.clearing)
-          c.put_order-2.ensures is c.enter-left.ensures.left c.enter-left.ensures.day c.entered_late.ensures c.enter-left.ensures.register c.release_lots.ensures.after
+          c.put_order-2.ensures.day is c.enter-left.ensures.left c.enter-left.ensures.day c.entered_late.ensures c.enter-left.ensures.register c.release_lots.ensures.after
           ∙ ap (λ (met : Meeting). (activated_meeting c.args.place w met).world) same ∙ ap (λ (a : Activated). a.world) goes;
       inside =
           release_inside (g.C.Clearing.makeup c.args.clearing.now) (g.C.Clearing.makeup c.release_lots.new.clearing) (g.C.Clearing.book c.args.clearing.now) c.order_at-order.result.owner c.enter-left.result

@@ -24,7 +24,7 @@ pub invariant_of-self : goal.invariant_of-self
 invariant_of-self g c =
     let s = c.args.self.now in
     let day = lawful_out (day_of s.state) s.lawful in
-    ((s.state.few, tt), (∣ record { market = day.market; waits = day.waits; within = day.within } ∣₁, tt))
+    record { few = s.few; long = s.long; lawful = ∣ record { market = day.market; waits = day.waits; within = day.within } ∣₁ }
 
 pub activate_each-lots-requires-clause-ready : goal.activate_each-lots-requires-clause-ready
 activate_each-lots-requires-clause-ready g c =

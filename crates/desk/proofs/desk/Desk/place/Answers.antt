@@ -1,4 +1,4 @@
-use Rattle.std.proofs.Common.{true, false, refl, ap}
+use Rattle.std.proofs.Common.{true, false, refl, ap, arith}
 use Rattle.std.proofs.lemmas.Result.{err_from_is_err_and}
 use Rattle.model.proofs.LawfulDays.{placing_lawful}
 use Rattle.model.proofs.Reached.{lawful_out}
@@ -39,7 +39,7 @@ push_order-requires g c =
     let is = accepted_passed rule c.args.participant c.args.terms.now w c.in_ok-judge_place.ensures c.if-not-reserve_lots.ensures.answer in
     let sound = lawful_out (day_of s.state) s.lawful in
     let few = place_left s.state c.args.register.now (g.C.Clearing.book c.args.clearing.now) c.args.participant c.args.terms.now sound is in
-    few
+    omega (arith, few, s.long)
 
 pub invariant_of-self : goal.invariant_of-self
 invariant_of-self g c =
@@ -50,10 +50,10 @@ invariant_of-self g c =
     let is = waits_placed rule c.args.participant c.args.terms.now w c.in_ok-judge_place.ensures
     c.if-not-reserve_lots.ensures.answer waits c.next_number.result c.next_number.ensures
     (day_of c.push_order.new.state) (g.C.Clearing.book c.reserve_lots.new.clearing)
-    c.waiting.result c.waiting.ensures c.push_order.ensures c.reserve_lots.ensures.after in
+    c.waiting.result c.waiting.ensures c.push_order.ensures.day c.reserve_lots.ensures.after in
     let kept = keeps (day_of c.push_order.new.state) (placing rule c.args.participant c.args.terms.now w).world.day
     (placing_lawful rule (g.met.R.SharingRule.divides c.args.rule.now) c.args.participant c.args.terms.now w (lawful_out (day_of s.state) s.lawful)) (ap (λ (o : Outcome). o.world.day) is) in
-    record { lawful = kept }
+    record { few = c.push_order.ensures.few; long = c.push_order.ensures.long; lawful = kept }
 
 pub returns-then-waits : goal.returns-then-waits
 returns-then-waits g c =
@@ -65,7 +65,7 @@ returns-then-waits g c =
       outcome = waits_placed rule c.args.participant c.args.terms.now w c.in_ok-judge_place.ensures
           c.if-not-reserve_lots.ensures.answer waits c.next_number.result c.next_number.ensures
           (day_of c.push_order.new.state) (g.C.Clearing.book c.reserve_lots.new.clearing)
-          c.waiting.result c.waiting.ensures c.push_order.ensures c.reserve_lots.ensures.after;
+          c.waiting.result c.waiting.ensures c.push_order.ensures.day c.reserve_lots.ensures.after;
       inside =
           waits_inside rule c.args.participant c.args.terms.now w c.in_ok-judge_place.ensures
           c.if-not-reserve_lots.ensures.answer waits (g.C.Clearing.makeup c.args.clearing.now) (g.C.Clearing.makeup c.reserve_lots.new.clearing)
@@ -82,7 +82,7 @@ place_meeting-left-requires g c =
     let is = accepted_passed rule c.args.participant c.args.terms.now w c.in_ok-judge_place.ensures c.if-not-reserve_lots.ensures.answer in
     record {
       sound = sound;
-      few = place_left s.state c.args.register.now (g.C.Clearing.book c.args.clearing.now) c.args.participant c.args.terms.now sound is;
+      few = omega (arith, place_left s.state c.args.register.now (g.C.Clearing.book c.args.clearing.now) c.args.participant c.args.terms.now sound is, s.long);
       most = is.most;
       room = rows_left s.state c.args.register.now (g.C.Clearing.book c.args.clearing.now) c.args.participant c.args.terms.now sound is early;
     }
@@ -100,7 +100,7 @@ invariant_of-self-2 g c =
     c.place_meeting-left.ensures.day c.place_meeting-left.ensures.register c.reserve_lots.ensures.after refl in
     let kept = keeps (day_of c.place_meeting-left.new.state) (placing rule c.args.participant c.args.terms.now w).world.day
     (placing_lawful rule (g.met.R.SharingRule.divides c.args.rule.now) c.args.participant c.args.terms.now w (lawful_out (day_of s.state) s.lawful)) (ap (λ (o : Outcome). o.world.day) is) in
-    record { lawful = kept }
+    record { few = c.place_meeting-left.ensures.few; long = c.place_meeting-left.ensures.long; lawful = kept }
 
 pub returns : goal.returns
 returns g c =

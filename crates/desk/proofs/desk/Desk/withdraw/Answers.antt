@@ -1,4 +1,4 @@
-use Rattle.std.proofs.Common.{[], sym, ap}
+use Rattle.std.proofs.Common.{[], sym, ap, arith}
 use Rattle.std.proofs.lemmas.Result.{err_from_is_err_and}
 use Rattle.model.proofs.LawfulDays.{withdrawing_lawful}
 use Rattle.model.proofs.Reached.{lawful_out}
@@ -25,8 +25,10 @@ invariant_of-self g c =
     let w = world_of s.state [] (g.C.Clearing.book c.args.clearing.now) in
     let is = withdraw_accepted c.args.number c.args.participant c.in_ok-place.place s.state c.in_ok-place.ensures.refusal c.in_ok-place.ensures.place.0 c.order_at-order.result c.order_at-order.ensures.value
     [] (g.C.Clearing.book c.args.clearing.now) (g.C.Clearing.book c.take_out-lots.new.clearing) c.take_out-lots.result c.take_out-lots.new.order (day_of c.put_order.new.state)
-    c.take_out-lots.ensures.lots c.take_out-lots.ensures.order c.take_out-lots.ensures.cover c.put_order.ensures in
+    c.take_out-lots.ensures.lots c.take_out-lots.ensures.order c.take_out-lots.ensures.cover c.put_order.ensures.day in
     record {
+      few = omega (arith, c.put_order.ensures.count, s.few);
+      long = omega (arith, c.put_order.ensures.count, c.put_order.ensures.orders, s.long);
       lawful = keeps (day_of c.put_order.new.state) (withdrawing c.args.number c.args.participant w).world.day
           (withdrawing_lawful c.args.number c.args.participant w (lawful_out (day_of s.state) s.lawful)) (ap (λ (o : Outcome). o.world.day) is);
     }
@@ -37,7 +39,7 @@ returns g c =
     record {
       outcome = λ register. withdraw_accepted c.args.number c.args.participant c.in_ok-place.place s.state c.in_ok-place.ensures.refusal c.in_ok-place.ensures.place.0 c.order_at-order.result c.order_at-order.ensures.value
           register (g.C.Clearing.book c.args.clearing.now) (g.C.Clearing.book c.take_out-lots.new.clearing) c.take_out-lots.result c.take_out-lots.new.order (day_of c.put_order.new.state)
-          c.take_out-lots.ensures.lots c.take_out-lots.ensures.order c.take_out-lots.ensures.cover c.put_order.ensures;
+          c.take_out-lots.ensures.lots c.take_out-lots.ensures.order c.take_out-lots.ensures.cover c.put_order.ensures.day;
       inside = inside_accepted c.args.number c.args.participant c.in_ok-place.place s.state c.in_ok-place.ensures.refusal c.in_ok-place.ensures.place.0 c.order_at-order.result c.order_at-order.ensures.value
           (g.C.Clearing.makeup c.args.clearing.now) (g.C.Clearing.makeup c.take_out-lots.new.clearing) c.take_out-lots.ensures.inside;
     }
